@@ -1,0 +1,11 @@
+pub mod Bytes
+pub mod Numbers
+pub mod Codes
+pub mod Layout
+pub mod Checks
+pub mod Contents
+pub mod Records
+pub mod Bodies
+pub mod File
+pub mod Rules
+pub mod View

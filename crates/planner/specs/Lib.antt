@@ -1,0 +1,4 @@
+pub mod Numbers
+pub mod Stations
+pub mod Book
+pub mod State

@@ -1,0 +1,4 @@
+// The planner: its map, its stations and closures, and the calls that change them.
+
+pub mod change;
+pub mod planner;
