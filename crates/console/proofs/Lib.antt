@@ -1,0 +1,2 @@
+pub mod DigitByDigit
+pub mod Spelling

@@ -1,0 +1,6 @@
+// The console: a line to a call, an answer to its text.
+
+pub mod answer;
+pub mod line;
+pub mod numeral;
+pub mod session;

@@ -1,0 +1,10 @@
+pub mod Meaning
+pub mod Laws
+pub mod Cut
+pub mod Delays
+pub mod Running
+pub mod Turns
+pub mod Green
+pub mod Clock
+pub mod Runs
+pub mod Agreement

@@ -1,0 +1,10 @@
+pub mod Lists
+pub mod Tests
+pub mod Held
+pub mod Growth
+pub mod Complete
+pub mod Maximal
+pub mod Triggers
+pub mod Rivals
+pub mod Cover
+pub mod Twins
