@@ -2,7 +2,7 @@ ghost use mathlib.Core.Path.{_≡_};
 ghost use Rattle.mapfile.specs.Numbers.{number};
 
 // Where in the file a rule is broken: in the contents, in the bodies' sizes, or in a record.
-#[derive(Clone, Copy, PartialEq, Eq, Debug)]
+#[derive(Clone, Copy)]
 pub enum Layer {
     Contents,
     Body,
@@ -10,7 +10,7 @@ pub enum Layer {
 }
 
 // Which rule of the format is broken.
-#[derive(Clone, Copy, PartialEq, Eq, Debug)]
+#[derive(Clone, Copy)]
 pub enum Breach {
     Short,
     Edition,
@@ -37,7 +37,7 @@ impl Breach {
 }
 
 // Why a file is refused: the first broken rule in reading order, and the first byte of the broken field.
-#[derive(Clone, Copy, PartialEq, Eq, Debug)]
+#[derive(Clone, Copy)]
 pub struct Fault {
     pub layer: Layer,
     pub breach: Breach,

@@ -11,7 +11,7 @@ pub enum Change {
 }
 
 // Why a call is refused.
-#[derive(Clone, Copy, PartialEq, Eq, Debug)]
+#[derive(Clone, Copy)]
 pub enum Refusal {
     UnknownNumber,
     TurnoutTooLong,
