@@ -1,4 +1,5 @@
 pub mod Numbers
 pub mod Stations
 pub mod Book
+pub mod Sound
 pub mod State
