@@ -1,0 +1,11 @@
+pub mod Counts
+pub mod Pigeon
+pub mod Parts
+pub mod Follow
+pub mod Links
+pub mod Grown
+pub mod Works
+pub mod Covers
+pub mod Laid
+pub mod Reaches
+pub mod Facts

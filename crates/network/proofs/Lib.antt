@@ -1,0 +1,6 @@
+pub mod Counted
+pub mod Drawing
+pub mod Filled
+pub mod Packing
+pub mod Serving
+pub mod Slots

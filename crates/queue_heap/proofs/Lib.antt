@@ -1,0 +1,5 @@
+pub mod Moves
+pub mod Writing
+pub mod Steps
+pub mod Turns
+pub mod Heaps

@@ -1,0 +1,4 @@
+pub mod Order
+pub mod Index
+pub mod Sifts
+pub mod Heaps

@@ -1,0 +1,9 @@
+pub mod Refusals
+pub mod State
+pub mod Offers
+pub mod Takes
+pub mod Sound
+pub mod Order
+pub mod Cells
+pub mod Drains
+pub mod Runs

@@ -1,0 +1,11 @@
+pub mod Bounds
+pub mod Sweeps
+pub mod Follows
+pub mod Orders
+pub mod Walks
+pub mod Drives
+pub mod Takes
+pub mod Offers
+pub mod Ends
+pub mod Searches
+pub mod Computed

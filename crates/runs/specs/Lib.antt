@@ -1,0 +1,14 @@
+pub mod Nets
+pub mod Labels
+pub mod Runs
+pub mod Least
+pub mod Stages
+pub mod Traces
+pub mod Sweeps
+pub mod Follows
+pub mod Orders
+pub mod Takes
+pub mod Searches
+pub mod Computed
+pub mod Theorems
+pub mod Worked
