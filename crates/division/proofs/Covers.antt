@@ -1,6 +1,6 @@
 -- The owners from the first call to the last.
-use Prim.Native.Nat.{ℕ, zero, suc, _+_, _≤_, _<_}
-use mathlib.Core.Bool.{Bool, true, false, cond}
+use Prim.Native.Nat.{ℕ, _+_, _≤_, _<_}
+use mathlib.Core.Bool.{Bool, cond}
 use mathlib.Core.List.{List, [], _∷_}
 use mathlib.Core.Logic.{_⊎_, inl, inr, _≢_}
 use mathlib.Core.Path.{_≡_, refl, sym, _∙_, ap, subst}
@@ -10,21 +10,20 @@ use lib.ListN.{length, set, replicate}
 use lib.Seq.{getD-set-same, getD-set-other}
 use Rattle.std.proofs.shelf.Tests.{cases-eq, eq-eqb, ne-eqb}
 use Rattle.std.proofs.shelf.Lists.{getD-replicate}
-use Rattle.structures.specs.Graphs.{Graph, Within, Approach}
+use Rattle.structures.specs.Graphs.{Graph, Within}
 use Rattle.structures.specs.Rivals.{Among}
 use Rattle.structures.specs.Computed.{count}
-use Rattle.structures.proofs.Held.{Held, held-self, held-trans, holder-place}
-use Rattle.structures.proofs.Maximal.{Top, Twins}
+use Rattle.structures.proofs.Held.{Held, held-self, holder-place}
+use Rattle.structures.proofs.Maximal.{Top}
 use Rattle.structures.proofs.Growth.{held-cases}
-use Rattle.structures.proofs.Cover.{Covered, Fresh, Owners, Assigned, latest, earlier, assigned-held, assigned-call, assigned-only, owners-none, owners-call, owners-top}
+use Rattle.structures.proofs.Cover.{Covered, assigned-held, assigned-call, assigned-only, owners-none, owners-call, owners-top}
 use Rattle.network.specs.declared.network.Network.{Network}
 use Rattle.network.specs.Packed.{graph-of}
 use Rattle.division.specs.Lists.{at}
 use Rattle.division.specs.Keeping.{Packed}
-use Rattle.division.specs.Growing.{Member, Grown, approaches, Full}
+use Rattle.division.specs.Growing.{Member, Grown, approaches}
 use Rattle.division.specs.Covering.{nobody, Called, StillCovered, Overwritten, Owned}
 use Rattle.division.proofs.Counts.{count-next}
-use Rattle.division.proofs.Parts.{packed-within}
 
 -- Counting the approaches link by link.
 pub record Counting (n : Network) (full : ℕ → ℕ) (j : ℕ) : Type 0 where

@@ -1,17 +1,16 @@
--- One link more.
+-- Following one link: what is left to count, and who joins.
 use Prim.Native.Nat.{ℕ, suc, _+_, _-_, _≤_, _<_}
 use mathlib.Core.Bool.{Bool, true, false, not, _&&_, _||_}
 use mathlib.Core.Logic.{_⊎_, inl, inr, _≢_}
 use mathlib.Core.Path.{_≡_, refl, sym, _∙_, ap, subst}
 use native.Mathlib.Omega.{arith}
 use lib.Dec.{eqb}
-use Rattle.std.specs.Orderings.{Decides}
-use Rattle.std.proofs.shelf.Tests.{both-ways, cases-eq, cases-bool, eq-eqb, ne-eqb, eqb-true, and-from, not-from-true, not-from-false}
+use Rattle.std.proofs.shelf.Tests.{cases-eq, cases-bool, eq-eqb, ne-eqb, and-from, not-from-false}
 use Rattle.std.proofs.shelf.Ways.{decides-or, decides-eqb, decides-like}
-use Rattle.structures.specs.Graphs.{Graph, Within, Approach}
+use Rattle.structures.specs.Graphs.{Graph, Within}
 use Rattle.structures.specs.Computed.{count}
-use Rattle.structures.proofs.Held.{Held, root, held-joins, held-least, held-place}
-use Rattle.division.specs.Growing.{Member, Before, Pending, Growing, Grown, Full, approaches}
+use Rattle.structures.proofs.Held.{Held, held-joins, held-place}
+use Rattle.division.specs.Growing.{Member, Pending, Growing}
 use Rattle.division.proofs.Counts.{count-same, count-more, count-none, count-nothing, or-off, or-on, and-off}
 use Rattle.division.proofs.Pigeon.{pigeon}
 
@@ -115,9 +114,6 @@ growing-like g v member left len Done Same like growing = record {
 module _ (g : Graph) (within : Within g) (all-open : (k : ℕ) → g .usable k ≡ true) (v : ℕ) (member left after : ℕ → ℕ) (len : ℕ) (Done : ℕ → Type 0)
     (growing : Growing g v member left len Done) (i : ℕ) (lt : i < g .links) (fresh : Done i → ⊥) (tail : Member member len (g .tail i))
     (less : after (g .head i) ≡ left (g .head i) - 1) (same : (z : ℕ) → z ≢ g .head i → after z ≡ left z) where
-  w : ℕ
-  w = g .head i
-
   counted : 0 < left (g .head i)
   counted = link-counted g within all-open left after Done (growing .pending) i lt fresh
 

@@ -1,5 +1,5 @@
 -- The growth from its start to its end, and the counters put back.
-use Prim.Native.Nat.{ℕ, zero, suc, _+_, _-_, _≤_, _<_}
+use Prim.Native.Nat.{ℕ, _+_, _≤_, _<_}
 use mathlib.Core.Bool.{Bool, true, false, not, _&&_}
 use mathlib.Core.List.{List}
 use mathlib.Core.Logic.{_⊎_, inl, inr, _≢_}
@@ -12,8 +12,8 @@ use Rattle.std.proofs.shelf.Tests.{both-ways, cases-eq, cases-bool, and-parts, 
 use Rattle.std.specs.Orderings.{When}
 use Rattle.network.specs.declared.network.Network.{Network}
 use Rattle.network.specs.Packed.{graph-of}
-use Rattle.structures.specs.Graphs.{Graph, Within, Approach}
-use Rattle.structures.specs.Computed.{some, count}
+use Rattle.structures.specs.Graphs.{Graph, Approach}
+use Rattle.structures.specs.Computed.{some}
 use Rattle.structures.proofs.Tests.{some-decides}
 use Rattle.structures.proofs.Held.{Held, held-self, held-place, held-least, head-place}
 use Rattle.structures.proofs.Twins.{twin-bare, twin-outside}
@@ -21,8 +21,8 @@ use Rattle.division.specs.Lists.{at}
 use Rattle.division.specs.Keeping.{Packed}
 use Rattle.division.specs.Growing.{Member, Before, Pending, Growing, Grown, Full, PutBack, Closed, Alone, approaches}
 use Rattle.division.proofs.Counts.{count-same, count-none, count-some}
-use Rattle.division.proofs.Parts.{packed-within, part-known, part-tail, tail-part, link-approach}
-use Rattle.division.proofs.Follow.{growing-like, none-pending, all-done}
+use Rattle.division.proofs.Parts.{packed-within, tail-part}
+use Rattle.division.proofs.Follow.{none-pending, all-done}
 
 -- v alone, with nothing done.
 pub growing-none : (n : Network) → Packed n → (v : ℕ) → v < n .places → (left members : List ℕ) → length members ≡ 2048 → Full (graph-of n) (at left) →
@@ -54,9 +54,6 @@ bare-alone n v here full fulls none m h k = twin-bare (graph-of n)
     (λ x a. count-none (λ j. eqb (graph-of n .head j) v) (graph-of n .links) (sym (fulls v here) ∙ none) (a .link) (a .known) (eq-eqb (graph-of n .head (a .link)) v (a .to))) k
 
 module _ (n : Network) (packed : Packed n) (v : ℕ) (member left : ℕ → ℕ) (len : ℕ) (growing : Growing (graph-of n) v member left len (Before (graph-of n) member len)) where
-  g : Graph
-  g = graph-of n
-
   -- every link into a place whose approaches are members is done
   fed : (x : ℕ) → ((y : ℕ) → Approach (graph-of n) y x → Member member len y) → (i : ℕ) → i < graph-of n .links → graph-of n .head i ≡ x → Before (graph-of n) member len i
   fed x all i lt e = all (graph-of n .tail i) (record { link = i; known = lt; is-open = refl; from = refl; to = e })

@@ -1,14 +1,14 @@
 -- The order list, written one structure after the other in the order of their triggers.
-use Prim.Native.Nat.{ℕ, zero, suc, _+_, _-_, _≤_, _<_}
-use mathlib.Core.Bool.{Bool, true, false, cond, not}
-use mathlib.Core.List.{List, [], _∷_}
+use Prim.Native.Nat.{ℕ, _+_, _-_, _≤_, _<_}
+use mathlib.Core.Bool.{Bool, true, cond, not}
+use mathlib.Core.List.{List}
 use mathlib.Core.Logic.{_⊎_, inl, inr, _≢_}
 use mathlib.Core.Path.{_≡_, refl, sym, _∙_, ap, subst}
 use native.Mathlib.Omega.{arith}
-use lib.Dec.{eqb, ltb}
+use lib.Dec.{ltb}
 use lib.ListN.{length, set}
 use lib.Seq.{getD-set-same, getD-set-other}
-use Rattle.std.proofs.shelf.Tests.{cases-eq, cases-lt, cond-true, cond-false, lt-ltb, le-ltb, eqb-true, eqb-false, eq-eqb, ne-eqb, not-true, not-from-false}
+use Rattle.std.proofs.shelf.Tests.{cases-eq, cases-lt, cond-true, cond-false, lt-ltb, le-ltb, eqb-false, eq-eqb, ne-eqb, not-true, not-from-false}
 use Rattle.structures.specs.Graphs.{Graph, Within, Approach}
 use Rattle.structures.specs.Rivals.{Among}
 use Rattle.structures.specs.Computed.{count, trigger, triggers}

@@ -1,6 +1,6 @@
 -- The links of member k, from the first position of its part to the last.
 use Prim.Native.Nat.{ℕ, _+_, _-_, _≤_, _<_}
-use mathlib.Core.Bool.{true, cond}
+use mathlib.Core.Bool.{cond}
 use mathlib.Core.List.{List}
 use mathlib.Core.Logic.{_⊎_, inl, inr, _≢_}
 use mathlib.Core.Path.{_≡_, refl, sym, _∙_, ap, subst}
@@ -8,17 +8,15 @@ use native.Mathlib.Omega.{arith}
 use lib.Dec.{eqb}
 use lib.ListN.{length, set}
 use lib.Seq.{getD-set-same, getD-set-other}
-use Rattle.std.proofs.shelf.Tests.{cases-eq, cases-lt, cond-true, cond-false, eq-eqb, ne-eqb}
+use Rattle.std.proofs.shelf.Tests.{cases-eq, cond-true, cond-false, eq-eqb, ne-eqb}
 use Rattle.network.specs.declared.network.Network.{Network}
 use Rattle.network.specs.Packed.{graph-of}
-use Rattle.structures.specs.Graphs.{Graph, Within, Approach}
-use Rattle.structures.proofs.Held.{Held, held-self, held-place, held-least}
+use Rattle.structures.proofs.Held.{held-place}
 use Rattle.division.specs.Lists.{at}
 use Rattle.division.specs.Keeping.{Packed}
-use Rattle.division.specs.Growing.{Member, Before, Partly, Pending, Growing, Grown, Full}
-use Rattle.division.proofs.Counts.{count-same}
+use Rattle.division.specs.Growing.{Member, Before, Partly, Growing}
 use Rattle.division.proofs.Parts.{packed-within, part-known, part-tail, tail-part}
-use Rattle.division.proofs.Follow.{Too, growing-like, growing-passes, growing-joins, all-done, link-counted}
+use Rattle.division.proofs.Follow.{Too, growing-like, growing-passes, growing-joins, link-counted}
 
 -- The growth while the links of member k are followed: the members before are as they were.
 pub record Following (n : Network) (v k : ℕ) (was : ℕ → ℕ) (joined : ℕ) (member left : ℕ → ℕ) (len j : ℕ) : Type 0 where

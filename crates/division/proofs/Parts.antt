@@ -1,16 +1,15 @@
 -- The parts of a network: the links that leave a place stand at the positions of its part, and only they.
 use Prim.Native.Nat.{ℕ, zero, suc, _+_, _-_, _≤_, _<_}
 use mathlib.Core.List.{List}
-use mathlib.Core.Bool.{true}
 use mathlib.Core.Logic.{_⊎_, inl, inr}
 use mathlib.Core.Path.{_≡_, refl, ap, subst}
 use native.Mathlib.Omega.{arith}
 use lib.ListN.{getD}
 use Rattle.std.proofs.shelf.Tests.{cases-order}
-use Rattle.network.specs.Shape.{Sized, Parts, Ends, Tails}
+use Rattle.network.specs.Shape.{Parts}
 use Rattle.network.specs.declared.network.Network.{Network}
 use Rattle.network.specs.Packed.{graph-of}
-use Rattle.structures.specs.Graphs.{Graph, Within, Approach}
+use Rattle.structures.specs.Graphs.{Within, Approach}
 use Rattle.division.specs.Lists.{at}
 use Rattle.division.specs.Keeping.{Packed}
 

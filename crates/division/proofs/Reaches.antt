@@ -1,6 +1,5 @@
 -- How far the links of each member lead on a way back to u, and what that says of the lowest twin.
-use Prim.Native.Nat.{ℕ, zero, suc, _+_, _-_, _≤_, _<_}
-use mathlib.Core.Bool.{Bool, true, false}
+use Prim.Native.Nat.{ℕ, _+_, _-_, _≤_, _<_}
 use mathlib.Core.List.{List}
 use mathlib.Core.Logic.{_⊎_, inl, inr, _≢_}
 use mathlib.Core.Path.{_≡_, refl, sym, _∙_, ap, subst}
@@ -16,12 +15,12 @@ use Rattle.network.specs.declared.network.Network.{Network}
 use Rattle.network.specs.Packed.{graph-of}
 use Rattle.division.specs.Lists.{at}
 use Rattle.division.specs.Keeping.{Packed}
-use Rattle.division.specs.Growing.{Member, Grown, Closed, Alone}
+use Rattle.division.specs.Growing.{Alone}
 use Rattle.division.specs.Twinned.{Spotted, Ringed, LinkReach, Reach, ReachFrom, LowestTwin, Named}
 use Rattle.division.specs.Covering.{Owned}
 use Rattle.structures.specs.Computed.{trigger}
 use Rattle.structures.proofs.Triggers.{trigger-twin}
-use Rattle.division.proofs.Parts.{packed-within, part-known, part-tail, tail-part}
+use Rattle.division.proofs.Parts.{part-known, part-tail, tail-part}
 
 -- One more member knows its position.
 pub spotted-more : (member : ℕ → ℕ) (len q : ℕ) (spots : List ℕ) → ((i j : ℕ) → i < len → j < len → member i ≡ member j → i ≡ j) → q < len → member q < length spots →
@@ -240,9 +239,6 @@ module _ {g : Graph} {u : ℕ} {member : ℕ → ℕ} {len : ℕ} {spot : ℕ �
         ((top < far k) × (top′ ≡ far k)) ⊎ ((far k ≤ top) × (top′ ≡ top)) → Lowering g u member far low′ top′ (k + 1)
     lowering-more low′ top′ a b = record { twin = twin a; least = λ r below t. least r below t a (cases-eq r k); reached = λ r below. reached r below b (cases-eq r k); by = by b }
       where
-        A : Type 0
-        A = ((top ≤ k) × (member k < low) × (low′ ≡ member k)) ⊎ ((top ≤ k → member k < low → ⊥) × (low′ ≡ low))
-
         twin : ((top ≤ k) × (member k < low) × (low′ ≡ member k)) ⊎ ((top ≤ k → member k < low → ⊥) × (low′ ≡ low)) → Twins g u low′
         twin (inl s) = subst (Twins g u) (sym (s .2)) (held-k, candidate (s .0))
         twin (inr s) = subst (Twins g u) (sym (s .1)) (before .twin)

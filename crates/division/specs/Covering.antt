@@ -1,11 +1,11 @@
 -- Growing from places not yet covered, each call overwriting what it holds, until every place has an owner.
-use Prim.Native.Nat.{ℕ, _≤_, _<_}
+use Prim.Native.Nat.{ℕ, _<_}
 use mathlib.Core.List.{List}
 use mathlib.Core.Logic.{_≢_}
 use mathlib.Core.Path.{_≡_}
 use Rattle.structures.specs.Graphs.{Graph}
 use Rattle.structures.proofs.Held.{Held}
-use Rattle.structures.proofs.Maximal.{Top, Twins}
+use Rattle.structures.proofs.Maximal.{Top}
 use Rattle.structures.proofs.Cover.{Covered, Fresh, Owners}
 use Rattle.division.specs.declared.work.Work.{Work}
 use Rattle.division.specs.Growing.{Member, Full}

@@ -1,4 +1,3 @@
-ghost use Prim.Native.Nat.{ℕ, _≤_, _<_};
 ghost use Rattle.network.specs.Packed.{graph-of};
 ghost use Rattle.division.specs.Lists.{at};
 ghost use Rattle.division.specs.Keeping.{Packed};

@@ -1,4 +1,3 @@
-ghost use mathlib.Core.Path.{_≡_};
 ghost use mathlib.Core.Logic.{_≢_};
 ghost use Prim.Native.Nat.{ℕ, _≤_, _<_};
 ghost use Rattle.network.specs.Packed.{graph-of};
@@ -137,7 +136,7 @@ fn call_bare(
 }
 
 // Covers the places that a walk left, the last first, each followed by the border places that it meets.
-fn call_left(
+fn call_walked(
     net: &Network,
     walk: &Walk,
     full: &[u16; 2048],
@@ -201,7 +200,7 @@ pub fn cover(
     call_bare(net, full, left, members, &mut owners, &mut work);
     let next = drain(net, full, left, members, &mut owners, &mut work, 0);
     let walk = postorder(net, &owners);
-    call_left(
+    call_walked(
         net,
         &walk,
         full,

@@ -1,6 +1,4 @@
-ghost use mathlib.Core.Path.{_≡_};
 ghost use Prim.Native.Nat.{ℕ, _+_, _≤_, _<_};
-ghost use lib.ListN.{length};
 ghost use Rattle.network.specs.Packed.{graph-of};
 ghost use Rattle.division.specs.Lists.{at};
 ghost use Rattle.division.specs.Keeping.{Packed};

@@ -1,6 +1,6 @@
-ghost use Prim.Native.Nat.{ℕ, _+_, _≤_, _<_};
+ghost use Prim.Native.Nat.{_≤_};
 ghost use lib.Dec.{T};
-ghost use lib.ListN.{getD, length};
+ghost use lib.ListN.{length};
 ghost use Rattle.network.specs.Shape.{Parts, Ends, Tails};
 use super::answer::ListLength;
 use super::answer::ListLengthDebug;

@@ -1,5 +1,5 @@
 ghost use mathlib.Core.Path.{_≡_};
-ghost use Prim.Native.Nat.{ℕ, _+_, _≤_, _<_};
+ghost use Prim.Native.Nat.{ℕ, _<_};
 ghost use Rattle.division.specs.Keeping.{Packed};
 ghost use Rattle.division.specs.Working.{Walking};
 use super::cover::NOBODY;

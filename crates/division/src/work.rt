@@ -1,4 +1,4 @@
-ghost use Prim.Native.Nat.{ℕ, _≤_, _<_};
+ghost use Prim.Native.Nat.{ℕ, _<_};
 ghost use Rattle.division.specs.Working.{Waiting};
 
 // Places to grow from, in the order in which they are met. Each is met once.

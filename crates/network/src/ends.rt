@@ -3,7 +3,6 @@ ghost use Prim.Native.Nat.{_≤_};
 ghost use mathlib.Core.Path.{_≡_};
 ghost use Rattle.network.specs.Within.{Within};
 
-
 mod drawn;
 
 // Where the links of a map begin and end, and which of them are open, by link number.

@@ -1,8 +1,8 @@
 ghost use lib.ListN.{length};
 ghost use mathlib.Core.Path.{_≡_};
 ghost use Rattle.network.specs.Drawn.{map-graph, ends-graph, Alike};
-use mapfile::map::Map;
 use super::Ends;
+use mapfile::map::Map;
 
 impl Ends {
     // The ends of a map's links, which are open but for those that are closed.
@@ -19,6 +19,12 @@ impl Ends {
             tails[k] = link.from;
             heads[k] = link.to;
         }
-        Ends { places: counts.places, links: counts.links, usable, tails, heads }
+        Ends {
+            places: counts.places,
+            links: counts.links,
+            usable,
+            tails,
+            heads,
+        }
     }
 }

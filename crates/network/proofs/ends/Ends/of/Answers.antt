@@ -45,12 +45,16 @@ ghost-result c =
     let m = now (c .args .map) in
     let e = ap (λ n. n .links) (c .counts-counts .ensures) in
     let p = ap (λ n. n .places) (c .counts-counts .ensures) in
-    let i = c .loop-k .inv in
-    ((omega (arith, p, m .sized), omega (arith, e, m .sized), i .open-links .long, i .tail-ends .long, i .head-ends .long),
-      ((λ k h.
-        let lt : k < m .counts .links = omega (arith, e) in
-        let at : k < c .loop-k .k = omega arith in
-        (omega (arith, i .tail-ends .each k at, m .«each_link» k lt, p), omega (arith, i .head-ends .each k at, m .«each_link» k lt, p))), tt))
+    let i = c .loop-k .inv in (
+      (omega (arith, p, m .sized), omega (arith, e, m .sized), i .open-links .long, i .tail-ends .long, i .head-ends .long),
+      (
+        (λ k h.
+            let lt : k < m .counts .links = omega (arith, e) in
+            let at : k < c .loop-k .k = omega arith in
+            (omega (arith, i .tail-ends .each k at, m .«each_link» k lt, p), omega (arith, i .head-ends .each k at, m .«each_link» k lt, p))),
+        tt,
+      ),
+    )
 
 pub returns : need.returns
 returns c =

@@ -48,8 +48,8 @@ loop-k-again c =
     let k = c .loop-k .k in
     let t = e .within k (c .loop-k-test .taken) in
     elim (c .if-ends-k .came) [
-      then-ends-k w ↦ filled-same g (k + 1) (w .next-is) (w .numbers-is) (w .tails-is) (w .heads-is) (filled-yes g (e .sized .1) (e .sized .0) k (c .loop-k .next) (c .loop-k .numbers) (c .loop-k .tails) (c .loop-k .heads) (c .loop-k .inv) _ _ _ (c .loop-k .inv .nexts _ (t .0)) refl refl (c .loop-k-test .taken) (w .if-ends-k .taken) (t .0))
-    | else-ends-k w ↦ filled-same g (k + 1) (w .next-is) (w .numbers-is) (w .tails-is) (w .heads-is) (filled-no g (e .sized .1) (e .sized .0) k (c .loop-k .next) (c .loop-k .numbers) (c .loop-k .tails) (c .loop-k .heads) (c .loop-k .inv) (w .if-ends-k .left))
+      | then-ends-k w ↦ filled-same g (k + 1) (w .next-is) (w .numbers-is) (w .tails-is) (w .heads-is) (filled-yes g (e .sized .1) (e .sized .0) k (c .loop-k .next) (c .loop-k .numbers) (c .loop-k .tails) (c .loop-k .heads) (c .loop-k .inv) _ _ _ (c .loop-k .inv .nexts _ (t .0)) refl refl (c .loop-k-test .taken) (w .if-ends-k .taken) (t .0))
+      | else-ends-k w ↦ filled-same g (k + 1) (w .next-is) (w .numbers-is) (w .tails-is) (w .heads-is) (filled-no g (e .sized .1) (e .sized .0) k (c .loop-k .next) (c .loop-k .numbers) (c .loop-k .tails) (c .loop-k .heads) (c .loop-k .inv) (w .if-ends-k .left))
     ]
 
 pub ghost-result : need.ghost-result
@@ -57,11 +57,16 @@ ghost-result c =
     let e = c .args .ends .now in
     let g = ends-graph e in
     let k : c .loop-k .k ≡ e .links = omega arith in
-    let f = subst (λ x. Filled g x (c .loop-k .next) (c .loop-k .numbers) (c .loop-k .tails) (c .loop-k .heads)) k (c .loop-k .inv) in
-    (sized-at g (e .sized .1) (e .sized .0) (e .within) (c .starts-first .result) (c .loop-k .next) (c .loop-k .numbers) (c .loop-k .tails) (c .loop-k .heads) (c .starts-first .ensures .starts) (c .starts-first .ensures .long) f,
-      (parts-at g (e .sized .1) (e .sized .0) (e .within) (c .starts-first .result) (c .loop-k .next) (c .loop-k .numbers) (c .loop-k .tails) (c .loop-k .heads) (c .starts-first .ensures .starts) (c .starts-first .ensures .long) f,
-      (ends-at g (e .sized .1) (e .sized .0) (e .within) (c .starts-first .result) (c .loop-k .next) (c .loop-k .numbers) (c .loop-k .tails) (c .loop-k .heads) (c .starts-first .ensures .starts) (c .starts-first .ensures .long) f,
-      (tails-at g (e .sized .1) (e .sized .0) (e .within) (c .starts-first .result) (c .loop-k .next) (c .loop-k .numbers) (c .loop-k .tails) (c .loop-k .heads) (c .starts-first .ensures .starts) (c .starts-first .ensures .long) f, tt))))
+    let f = subst (λ x. Filled g x (c .loop-k .next) (c .loop-k .numbers) (c .loop-k .tails) (c .loop-k .heads)) k (c .loop-k .inv) in (
+      sized-at g (e .sized .1) (e .sized .0) (e .within) (c .starts-first .result) (c .loop-k .next) (c .loop-k .numbers) (c .loop-k .tails) (c .loop-k .heads) (c .starts-first .ensures .starts) (c .starts-first .ensures .long) f,
+      (
+        parts-at g (e .sized .1) (e .sized .0) (e .within) (c .starts-first .result) (c .loop-k .next) (c .loop-k .numbers) (c .loop-k .tails) (c .loop-k .heads) (c .starts-first .ensures .starts) (c .starts-first .ensures .long) f,
+        (
+          ends-at g (e .sized .1) (e .sized .0) (e .within) (c .starts-first .result) (c .loop-k .next) (c .loop-k .numbers) (c .loop-k .tails) (c .loop-k .heads) (c .starts-first .ensures .starts) (c .starts-first .ensures .long) f,
+          (tails-at g (e .sized .1) (e .sized .0) (e .within) (c .starts-first .result) (c .loop-k .next) (c .loop-k .numbers) (c .loop-k .tails) (c .loop-k .heads) (c .starts-first .ensures .starts) (c .starts-first .ensures .long) f, tt),
+        ),
+      ),
+    )
 
 pub returns : need.returns
 returns c =

@@ -1,6 +1,6 @@
 use Prim.Native.Nat.{_-_}
 use native.Mathlib.Omega.{arith}
-use Rattle.division.proofs.cover.call_left.Needs as need
+use Rattle.division.proofs.cover.call_walked.Needs as need
 
 pub call-requires : need.call-requires
 call-requires c κs = record {
