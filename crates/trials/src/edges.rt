@@ -1,15 +1,12 @@
-// edges: files, stations and lines at their limits, each with its answer.
+// Files, stations and lines at their limits, each with its answer.
+use super::files::lawful;
+use super::files::patched;
 use console::answer::Answer;
 use console::answer::AnswerDisplay;
 use console::session::handle;
 use mapfile::map::Map;
 use planner::planner::Planner;
 use std::io;
-
-mod files;
-
-use files::lawful;
-use files::patched;
 
 // Prints the answer to a file.
 fn report(rt: &LibcRuntime, name: &str, file: &[u8]) -> io::Result<()> {
@@ -22,7 +19,7 @@ fn report(rt: &LibcRuntime, name: &str, file: &[u8]) -> io::Result<()> {
 }
 
 // Files of every shape: none of some records, and as many of each as there may be.
-fn shapes(rt: &LibcRuntime) -> io::Result<()> {
+pub fn shapes(rt: &LibcRuntime) -> io::Result<()> {
     report(rt, "one place", lawful(rt.alloc(), 1, 0, 0)?.as_slice())?;
     report(rt, "no links", lawful(rt.alloc(), 5, 0, 1)?.as_slice())?;
     report(rt, "no signals", lawful(rt.alloc(), 5, 6, 0)?.as_slice())?;
@@ -50,7 +47,7 @@ fn shapes(rt: &LibcRuntime) -> io::Result<()> {
 }
 
 // A lawful file of 5 places, 6 links and a signal, cut short or drawn out.
-fn sizes(rt: &LibcRuntime) -> io::Result<()> {
+pub fn sizes(rt: &LibcRuntime) -> io::Result<()> {
     let mut file = lawful(rt.alloc(), 5, 6, 1)?;
     report(rt, "the file itself", file.as_slice())?;
     file.push(0)?;
@@ -66,7 +63,7 @@ fn sizes(rt: &LibcRuntime) -> io::Result<()> {
 }
 
 // The same file with one byte changed, so that a field of it breaks its rule.
-fn fields(rt: &LibcRuntime) -> io::Result<()> {
+pub fn fields(rt: &LibcRuntime) -> io::Result<()> {
     let file = lawful(rt.alloc(), 5, 6, 1)?;
     let changes = [
         ("edition", 0, 2),
@@ -108,7 +105,7 @@ fn fields(rt: &LibcRuntime) -> io::Result<()> {
 }
 
 // Each line in turn, on a map of 65 places.
-fn lines(rt: &LibcRuntime) -> io::Result<()> {
+pub fn lines(rt: &LibcRuntime) -> io::Result<()> {
     let file = lawful(rt.alloc(), 65, 6, 1)?;
     let mut map = Map::empty();
     let _ = map.read(file.as_slice());
@@ -143,11 +140,4 @@ fn lines(rt: &LibcRuntime) -> io::Result<()> {
         println!(rt, "'{line}': {answer}")?;
     }
     Ok(())
-}
-
-fn main(rt: LibcRuntime) -> io::Result<()> {
-    shapes(&rt)?;
-    sizes(&rt)?;
-    fields(&rt)?;
-    lines(&rt)
 }

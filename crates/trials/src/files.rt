@@ -17,6 +17,24 @@ fn contents(file: &mut Vec<u8>, places: u16, links: u16, signals: u16) -> Result
     contents_line(file, 3, signals, signals_start)
 }
 
+// A link with a running time, without class, signal and grade.
+pub fn plain_link(file: &mut Vec<u8>, from: u16, to: u16, run: u16) -> Result<(), AllocError> {
+    file.extend_from_slice(&from.to_le_bytes())?;
+    file.extend_from_slice(&to.to_le_bytes())?;
+    file.extend_from_slice(&run.to_le_bytes())?;
+    file.extend_from_slice(&[0, 0, 255, 255, 0, 0])
+}
+
+// The contents and places of a map, for its links and signals to follow.
+pub fn begun(heap: Global, places: u16, links: u16, signals: u16) -> Result<Vec<u8>, AllocError> {
+    let mut file = Vec::new(heap);
+    contents(&mut file, places, links, signals)?;
+    for place in 0..places {
+        file.extend_from_slice(&(u32::from(place) + 1).to_le_bytes())?;
+    }
+    Ok(file)
+}
+
 // A link that leads back to its start, with a signal if there are any.
 fn link(file: &mut Vec<u8>, number: u16, places: u16, signals: u16) -> Result<(), AllocError> {
     let place = number.min(places.saturating_sub(1));
@@ -43,11 +61,7 @@ fn signal(file: &mut Vec<u8>) -> Result<(), AllocError> {
 
 // A map file with so many places, links and signals, whose records keep their rules.
 pub fn lawful(heap: Global, places: u16, links: u16, signals: u16) -> Result<Vec<u8>, AllocError> {
-    let mut file = Vec::new(heap);
-    contents(&mut file, places, links, signals)?;
-    for place in 0..places {
-        file.extend_from_slice(&(u32::from(place) + 1).to_le_bytes())?;
-    }
+    let mut file = begun(heap, places, links, signals)?;
     for number in 0..links {
         link(&mut file, number, places, signals)?;
     }
