@@ -1,13 +1,13 @@
 #!/usr/bin/env python3
-"""Instructions per open link that `mapdivide` spends on dividing a map, by family and size.
+"""Instructions per open link that `mapdivide` spends on packing and dividing a map, by family and size.
 
-Needs valgrind, and the programs mapdivide and runplan (`rt check mapdivide runplan`). What is counted is `mapdivide` on a map less `runplan` on the same
-map without lines, which starts up and reads the map alike. Packing the links and printing a line for each place are in the figures.
+Needs valgrind, and the program (`rt check mapdivide`). The program divides as often as its argument says; what is counted is eleven times less once,
+so start-up, reading and printing are not in the figures.
 """
 import os, random, re, struct, subprocess, sys, tempfile
 
 HERE = os.path.dirname(os.path.abspath(__file__))
-BIN = os.path.join(HERE, '..', 'target', 'bin')
+PROGRAM = os.path.join(HERE, '..', 'target', 'bin', 'mapdivide')
 SIZES = [256, 512, 1024, 2048]
 
 
@@ -57,12 +57,12 @@ FAMILIES = {
 }
 
 
-def instructions(program, places, links):
+def instructions(places, links, repeats):
     with tempfile.TemporaryDirectory() as folder:
         with open(os.path.join(folder, 'map.bin'), 'wb') as f:
             f.write(map_file(places, links))
         run = subprocess.run(
-            ['valgrind', '--tool=callgrind', '--callgrind-out-file=/dev/null', os.path.abspath(os.path.join(BIN, program))],
+            ['valgrind', '--tool=callgrind', '--callgrind-out-file=/dev/null', os.path.abspath(PROGRAM), str(repeats)],
             cwd=folder, stdin=subprocess.DEVNULL, stdout=subprocess.DEVNULL, stderr=subprocess.PIPE, text=True, check=True)
         return int(re.search(r'Collected : (\d+)', run.stderr).group(1))
 
@@ -74,8 +74,8 @@ def main():
         row = []
         for n in SIZES:
             links = family(n)
-            spent = instructions('mapdivide', n, links) - instructions('runplan', n, links)
-            row.append(spent / len(links))
+            spent = instructions(n, links, 11) - instructions(n, links, 1)
+            row.append(spent / 10 / len(links))
         ratio = row[-1] / row[0]
         worst = max(worst, ratio)
         print(name.ljust(28) + ''.join(f'{x:10.1f}' for x in row) + f'{ratio:16.2f}')

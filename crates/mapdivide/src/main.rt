@@ -4,7 +4,9 @@ use console::answer::AnswerDisplay;
 use console::input::map_file;
 use console::input::next_line;
 use console::line::content;
+use console::numeral::number;
 use mapfile::map::Map;
+use std::env;
 use std::io;
 use std::io::BufReader;
 
@@ -40,6 +42,16 @@ fn print(rt: &LibcRuntime, listed: &Listed) -> io::Result<()> {
     Ok(())
 }
 
+// How often to divide: the program's argument, for measuring, or once.
+fn repeats(rt: &LibcRuntime) -> io::Result<u32> {
+    for word in env::args(rt)?.skip(1) {
+        if let Some(count) = number(word.as_bytes()) {
+            return Ok(count);
+        }
+    }
+    Ok(1)
+}
+
 fn main(rt: LibcRuntime) -> io::Result<()> {
     let file = map_file(&rt);
     let mut map = Map::empty();
@@ -48,5 +60,8 @@ fn main(rt: LibcRuntime) -> io::Result<()> {
     }
     let mut closed = [false; 4096];
     read_closures(&rt, &map, &mut closed)?;
+    for _ in 1..repeats(&rt)? {
+        let _ = divided(rt.alloc(), &map, &closed)?;
+    }
     print(&rt, &divided(rt.alloc(), &map, &closed)?)
 }
