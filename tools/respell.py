@@ -16,8 +16,8 @@ import sys
 APART = {"Runs-driven": "RunsAreDriven", "costs-never-fall": "costs_never_fall_lem"}
 
 # Bound variables, and names that an import gives.
-BOUND = """all-open apart-v begun-other begun-p blank-entry classed-type ended-other ended-p file-counts is-less item-at
-lawful-type p-in read-x read-y triggers-of""".split()
+BOUND = """all-open apart-v begun-other begun-p blank-entry ended-other ended-p file-counts is-less item-at
+p-in read-x read-y triggers-of""".split()
 
 NAME = r"[A-Za-z_][A-Za-z0-9_'-]*"
 DASHED = re.compile(r"(?<![A-Za-z0-9_'-])[A-Za-z_][A-Za-z0-9_']*(?:-[A-Za-z0-9_']+)+")

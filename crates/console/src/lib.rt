@@ -1,4 +1,5 @@
 // The console: a line to a call, an answer to its text.
+#![tactic(auto)]
 
 pub mod answer;
 pub mod input;

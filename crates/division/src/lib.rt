@@ -1,4 +1,5 @@
 // The division of a network into maximal structures.
+#![tactic(auto)]
 
 pub mod answer;
 mod counters;

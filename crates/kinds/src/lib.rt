@@ -1,4 +1,5 @@
 // What "cheaper" means: the interface of cost kinds, its laws, and the kinds themselves.
+#![tactic(auto)]
 
 pub mod clock;
 pub mod delay;

@@ -1,4 +1,6 @@
 // mapdivide: reads map.bin and the numbers of closed links, then prints each place with its trigger.
+#![tactic(auto)]
+
 use console::answer::Answer;
 use console::input::{map_file, next_line};
 use console::line::content;

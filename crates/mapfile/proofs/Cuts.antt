@@ -1,10 +1,9 @@
 -- A body's records as its loop cuts them out.
-use Rattle.std.proofs.Common.{◌≡◌, ℕ, suc, ◌+◌, ◌-◌, ◌*◌, ◌<◌, ◌≤◌, List, take, drop, refl, mul-le-mul_left, mul-suc, add-one, arith}
+use Rattle.std.proofs.Common.{◌≡◌, ℕ, suc, ◌+◌, ◌-◌, ◌*◌, ◌<◌, ◌≤◌, List, take, drop, mul-le-mul_left, mul-suc, add-one, arith}
 use Rattle.mapfile.specs.declared.counts.Counts.{Counts}
-use Rattle.mapfile.specs.declared.fault.Fault.{Fault}
-use Rattle.mapfile.specs.Bodies.{nth_place, nth_link, nth_signal, place_at, link_at, signal_at, site_before, from_before}
+use Rattle.mapfile.specs.Bodies.{nth_place, nth_link, nth_signal, place_at, link_at, site_before, from_before}
 use Rattle.mapfile.specs.Bytes.{word, long, part}
-use Rattle.mapfile.specs.Checks.{Check, answer}
+use Rattle.mapfile.specs.Checks.{answer}
 use Rattle.mapfile.specs.Records.{place_checks, link_checks, signal_checks}
 
 pub cut : (b : List ℕ) (at size : ℕ) → take (at + size - at) (drop at b) ≡ part b at size

@@ -1,13 +1,13 @@
 -- All checks are kept exactly when the file keeps every rule.
-use Rattle.std.proofs.Common.{◌≡◌, ℕ, ◌<◌, ◌≤◌, Bool, true, false, cond, ◌&&◌, ◌||◌, eqb, ltb, leb, List, [], ◌∷◌, ◌++◌, Ok, Err, Result, sym, refl, subst, arith}
+use Rattle.std.proofs.Common.{◌≡◌, ℕ, ◌<◌, ◌≤◌, Bool, true, false, ◌&&◌, ◌||◌, eqb, ltb, leb, List, [], ◌∷◌, ◌++◌, Ok, Err, Result, sym, refl, subst, arith}
 use Rattle.std.proofs.lemmas.Bool.Decides.{nat_tests}
 use Rattle.mapfile.specs.declared.body.BodyKind.{BodyKind}
 use Rattle.mapfile.specs.declared.body.BodyKind.TheVariants.{Places, Links, Signals}
 use Rattle.mapfile.specs.declared.counts.Counts.{Counts}
 use Rattle.mapfile.specs.declared.fault.Fault.{Fault}
 use Rattle.mapfile.specs.Bodies.{body_of, body_checks, nth_place, nth_link, nth_signal}
-use Rattle.mapfile.specs.Checks.{Check, answer, each, AllKept, First}
-use Rattle.mapfile.specs.Contents.{line_checks, contents_checks, length_checks}
+use Rattle.mapfile.specs.Checks.{Check, answer, AllKept, First}
+use Rattle.mapfile.specs.Contents.{line_checks, contents_checks}
 use Rattle.mapfile.specs.File.{checks, rest_checks}
 use Rattle.mapfile.specs.Layout.{start, counts}
 use Rattle.mapfile.specs.Rules.{Line, Lawful, EachPlace, EachLink, EachSign, EachSignal, EachSpare, Sized}

@@ -1,7 +1,7 @@
 -- Laws of lists of checks.
-use Rattle.std.proofs.Common.{◌≡◌, ℕ, zero, suc, ◌+◌, ◌<◌, ◌≤◌, Bool, true, false, cond, ◌⊎◌, List, [], ◌∷◌, ◌++◌, Ok, Err, Result, sym, refl, ap, ◌∙◌, inl, inr, ⊎_elim, add-one, arith}
+use Rattle.std.proofs.Common.{◌≡◌, ℕ, zero, suc, ◌+◌, ◌<◌, Bool, true, false, ◌⊎◌, List, [], ◌∷◌, ◌++◌, Ok, Err, Result, sym, refl, ◌∙◌, ⊎_elim, add-one, arith}
 use Rattle.mapfile.specs.declared.fault.Fault.{Fault}
-use Rattle.mapfile.specs.Checks.{Check, answer, each, AllKept, First}
+use Rattle.mapfile.specs.Checks.{Check, answer, each, AllKept}
 
 -- an accepted list keeps every check
 pub kept_of_ok : {A : Type 0} (cs : List Check) (a b : A) → answer cs a ≡ Ok b → AllKept cs

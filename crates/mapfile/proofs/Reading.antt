@@ -1,13 +1,12 @@
 -- A file's checks, one part after the other.
-use Rattle.std.proofs.Common.{◌≡◌, ℕ, ◌+◌, ◌*◌, ◌≤◌, eqb, List, ◌++◌, length, Ok, Err, Result, sym, refl, ap, ◌∙◌, subst, arith, length-drop, length-take}
-use Rattle.std.proofs.lemmas.Bool.Decides.{nat_tests}
+use Rattle.std.proofs.Common.{◌≡◌, ℕ, ◌+◌, ◌*◌, ◌≤◌, List, ◌++◌, length, Ok, Err, sym, ap, ◌∙◌, subst, arith, length-drop, length-take}
 use Rattle.mapfile.specs.declared.body.BodyKind.{BodyKind}
 use Rattle.mapfile.specs.declared.body.BodyKind.TheVariants.{Places, Links, Signals}
 use Rattle.mapfile.specs.declared.counts.Counts.{Counts}
 use Rattle.mapfile.specs.declared.fault.Fault.{Fault}
 use Rattle.mapfile.specs.Bodies.{Shown, body_of, body_checks}
 use Rattle.mapfile.specs.Bytes.{part}
-use Rattle.mapfile.specs.Checks.{Check, answer, AllKept}
+use Rattle.mapfile.specs.Checks.{Check, answer}
 use Rattle.mapfile.specs.Codes.{size}
 use Rattle.mapfile.specs.Contents.{contents_checks, length_checks}
 use Rattle.mapfile.specs.File.{checks, rest_checks}

@@ -1,6 +1,5 @@
 -- What a map holds.
 use Rattle.std.specs.Prelude.{◌≡◌, ℕ, ◌<◌, cond, List, Some, None, Option, ◌==◌}
-use Rattle.mapfile.specs.declared.counts.Counts.{Counts}
 use Rattle.mapfile.specs.declared.link.Link.{Link}
 use Rattle.mapfile.specs.declared.map.Map.{Map}
 use Rattle.mapfile.specs.declared.signal.Signal.{Signal}

@@ -1,4 +1,5 @@
 // The movement map: its records, its file and the view that reads them.
+#![tactic(auto)]
 
 mod bodies;
 pub mod body;

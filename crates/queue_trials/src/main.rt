@@ -1,4 +1,5 @@
 // Trials: the same calls on a row, on a heap and on a plain list, which have to agree at every step.
+#![tactic(auto)]
 
 mod counts;
 mod plain;

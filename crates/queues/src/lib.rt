@@ -1,4 +1,5 @@
 // Queues by their meaning: numbers that wait, each with a cost, and leave in rising order of cost.
+#![tactic(auto)]
 
 pub mod cells;
 pub mod drain;

@@ -1,4 +1,6 @@
 // runplan: reads map.bin, then answers each line of standard input with a line.
+#![tactic(auto)]
+
 use console::answer::Answer;
 use console::input::{map_file, next_line};
 use console::line::content;

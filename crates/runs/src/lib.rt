@@ -1,5 +1,7 @@
 //! The theory of the search: labels, runs, least costs, stages, what sweeps keep, and arriving links, for every kind of cost. Its definitions
 //! stand in `specs/`; each function's contract is a theorem.
+#![tactic(auto)]
+
 ghost use Rattle.runs.specs.Theorems.{RunsAreDriven, SearchStages, SearchSolves, BalancedLeast, BalanceTested};
 ghost use Rattle.runs.specs.Worked.{WorkedSheet};
 

@@ -10,7 +10,6 @@ use Rattle.structures.specs.Computed.{fed, listed, grown, held}
 use Rattle.structures.proofs.Lists.{remove, length_remove, among_remove, below, length_below, among_below}
 use Rattle.structures.proofs.Tests.{Fed, fed_decides, listed_table, listed_past}
 use Rattle.structures.proofs.Held.{Held, root, held_approach, held_before, held_place, held_loopless}
-use Rattle.structures.proofs.Held
 
 -- w is reached from v within k rounds.
 abbrev pub Round : Graph → ℕ → ℕ → ℕ → Type 0

@@ -1,4 +1,6 @@
 //! The theory of the division of a road map into structures. Its definitions stand in `specs/`; each function's contract is a theorem.
+#![tactic(auto)]
+
 ghost use Rattle.structures.specs.Theorems.{
   CompleteStructures,
   MaximalStructures,

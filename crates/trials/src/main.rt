@@ -1,4 +1,6 @@
 // trials: what the crates answer at their limits, and on many generated maps beside a plain second way to find the same.
+#![tactic(auto)]
+
 use std::io;
 
 mod divisions;

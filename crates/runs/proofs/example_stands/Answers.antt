@@ -9,4 +9,4 @@ use Rattle.structures.specs.Worked.{five}
 pub returns : goal.returns
 returns c =
     let lawful : Lawful net_of_five = lawful_listed five net_of_five.step stations (within_from_test five refl) refl in
-    record { lawful = lawful; tested = c.tested-stands.ensures net_of_five lawful sheet_of_five refl }
+    record { lawful = lawful; tested = c.tested_stands.ensures net_of_five lawful sheet_of_five refl }

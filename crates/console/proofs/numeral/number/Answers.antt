@@ -2,13 +2,13 @@ use Rattle.std.proofs.Common.{◌≡◌, ◌<◌, ◌≤◌, get_or, take, Some,
 use Rattle.console.specs.Numerals.{digits, value}
 use Rattle.console.proofs.DigitByDigit.{digit_is, digits_more, value_more, power_more, none_empty, none_long, none_broken, none_great, some_read, whole, not_empty}
 use Rattle.console.proofs.numeral.number.Goals as goal
-use Rattle.console.proofs.numeral.number.Goals.{then-is-empty-via-then-is-empty, then-is-empty-via-else-is-empty+then-digits-gt10, then-digit-lt48-via-then-digit-lt48, then-digit-lt48-via-else-digit-lt48+then-digit-gt57}
+use Rattle.console.proofs.numeral.number.Goals.{then-is_empty-via-then-is_empty, then-is_empty-via-else-is_empty+then-digits-gt10, then-digit-lt48-via-then-digit-lt48, then-digit-lt48-via-else-digit-lt48+then-digit-gt57}
 
-pub returns-then-is-empty : goal.returns-then-is-empty
-returns-then-is-empty c =
-    elim c.then-is-empty.branch [
-      | then-is-empty-via-then-is-empty w ↦ none_empty c.args.digits.now (sym w.if-is-empty.ensures)
-      | then-is-empty-via-else-is-empty+then-digits-gt10 w ↦ none_long c.args.digits.now (omega arith)
+pub returns-then-is_empty : goal.returns-then-is_empty
+returns-then-is_empty c =
+    elim c.then-is_empty.branch [
+      | then-is_empty-via-then-is_empty w ↦ none_empty c.args.digits.now (sym w.if-is_empty.ensures)
+      | then-is_empty-via-else-is_empty+then-digits-gt10 w ↦ none_long c.args.digits.now (omega arith)
     ]
 
 pub returns-then-digit-lt48 : goal.returns-then-digit-lt48
@@ -41,4 +41,4 @@ returns-else-value-gt4294967295 c =
     let ds = c.args.digits.now in
     let w = whole ds c.loop-digit.digit-index c.loop-digit-test.false in
     let e : c.loop-digit.value ≡ value ds = c.loop-digit.invariant.1 ∙ ap value w in
-    ap Some e ∙ some_read ds (not_empty ds c.if-is-empty.ensures) (omega arith) (sym (ap digits w) ∙ c.loop-digit.invariant.0) (omega arith)
+    ap Some e ∙ some_read ds (not_empty ds c.if-is_empty.ensures) (omega arith) (sym (ap digits w) ∙ c.loop-digit.invariant.0) (omega arith)

@@ -13,8 +13,8 @@ assign-requires c = record {
   places = λ q lt. omega (arith, held_place (graph_of c.args.net.now) (packed_within c.args.net.now c.requires.packed) c.requires.place (c.grow-growth.ensures.grown.only q lt), c.requires.packed.sized);
 }
 
-pub meet-border-requires : goal.meet-border-requires
-meet-border-requires c = record {
+pub meet_border-requires : goal.meet_border-requires
+meet_border-requires c = record {
   packed = c.requires.packed;
   short = omega (arith, c.grow-growth.ensures.grown.short, c.requires.packed.sized);
   places = λ q lt. held_place (graph_of c.args.net.now) (packed_within c.args.net.now c.requires.packed) c.requires.place (c.grow-growth.ensures.grown.only q lt);
@@ -30,7 +30,7 @@ returns-then-owners-v-eq-NOBODY c =
         left_full = c.grow-growth.ensures.left;
         called = called_more g within (omega (arith, c.requires.packed.sized)) c.args.v c.requires.place (at c.grow-growth.new.members) c.grow-growth.result.len
             (at c.args.owners.now) (at c.assign.new.owners) c.requires.underway.called c.grow-growth.ensures.grown c.assign.ensures c.if-owners-v-eq-NOBODY.true;
-        waiting = c.meet-border.ensures;
+        waiting = c.meet_border.ensures;
       };
       covered = covers_v g within (omega (arith, c.requires.packed.sized)) c.args.v c.requires.place (at c.grow-growth.new.members) c.grow-growth.result.len
           (at c.args.owners.now) (at c.assign.new.owners) c.requires.underway.called c.grow-growth.ensures.grown c.assign.ensures;

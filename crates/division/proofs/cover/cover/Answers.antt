@@ -6,8 +6,8 @@ use Rattle.division.proofs.Parts.{packed_within}
 use Rattle.division.proofs.Covers.{called_none}
 use Rattle.division.proofs.cover.cover.Goals as goal
 
-pub call-bare-requires : goal.call-bare-requires
-call-bare-requires c = record {
+pub call_bare-requires : goal.call_bare-requires
+call_bare-requires c = record {
   packed = c.requires.packed;
   full = c.requires.full;
   underway = record {

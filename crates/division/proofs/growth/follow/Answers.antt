@@ -20,8 +20,8 @@ bounds-net-i c = omega (arith, link_known c.loop-i.invariant c.loop-i.auto.i c.l
 pub bounds-left-w : goal.bounds-left-w
 bounds-left-w c = omega (arith, link_place c.loop-i.invariant c.loop-i.auto.i c.loop-i-test.true, c.requires.packed.sized)
 
-pub overflow-sub-rest : goal.overflow-sub-rest
-overflow-sub-rest c = omega (arith, link_left c.loop-i.invariant c.loop-i.auto.i c.loop-i-test.true)
+pub overflow_sub-rest : goal.overflow_sub-rest
+overflow_sub-rest c = omega (arith, link_left c.loop-i.invariant c.loop-i.auto.i c.loop-i-test.true)
 
 pub bounds-left-w-in-loop-i : goal.bounds-left-w-in-loop-i
 bounds-left-w-in-loop-i c = omega (arith, link_place c.loop-i.invariant c.loop-i.auto.i c.loop-i-test.true, c.requires.packed.sized)

@@ -9,8 +9,8 @@ loop-k-init c = emptying_none (graph_of c.args.net.now) (at c.args.members.now) 
 
 pub loop-k-preserved : goal.loop-k-preserved
 loop-k-preserved c =
-    emptying_more (graph_of c.args.net.now) (at c.args.members.now) (at c.args.full.now) (at c.args.left.now) (at c.loop-k.left) (at c.put-back-heads.new.left) c.loop-k.k
-    c.loop-k.invariant c.put-back-heads.ensures
+    emptying_more (graph_of c.args.net.now) (at c.args.members.now) (at c.args.full.now) (at c.args.left.now) (at c.loop-k.left) (at c.put_back_heads.new.left) c.loop-k.k
+    c.loop-k.invariant c.put_back_heads.ensures
 
 pub returns : goal.returns
 returns c =

@@ -7,8 +7,8 @@ use Rattle.division.proofs.Laid.{Laid, laid_none, laid_skip, laid_room, laid_all
 use Rattle.division.proofs.layout.lay_out.Goals as goal
 use Rattle.division.proofs.layout.lay_out.Goals.{then-triggers-t, else-triggers-t}
 
-pub write-stretch-requires : goal.write-stretch-requires
-write-stretch-requires c =
+pub write_stretch-requires : goal.write_stretch-requires
+write_stretch-requires c =
     let g = graph_of c.args.net.now in
     let named = c.requires.named c.loop-t.t c.loop-t-test.true in
     let room = laid_room g (packed_within c.args.net.now c.requires.packed) (at c.args.order.now) (at c.loop-t.order) (at c.loop-t.begins) (at c.loop-t.ends) c.loop-t.next c.loop-t.t
@@ -19,20 +19,20 @@ write-stretch-requires c =
       room = omega (arith, room, c.requires.room, c.grow-len.ensures.grown.begun);
     }
 
-pub overflow-cast-begins : goal.overflow-cast-begins
-overflow-cast-begins c =
+pub overflow_cast-begins : goal.overflow_cast-begins
+overflow_cast-begins c =
     let room = laid_room (graph_of c.args.net.now) (packed_within c.args.net.now c.requires.packed) (at c.args.order.now) (at c.loop-t.order) (at c.loop-t.begins) (at c.loop-t.ends) c.loop-t.next c.loop-t.t
     c.loop-t-test.true c.loop-t.invariant.1 (sym (c.requires.named c.loop-t.t c.loop-t-test.true) ∙ c.if-triggers-t.true) (at c.grow-len.new.members) c.grow-len.result.len c.grow-len.ensures.grown in
     omega (arith, room, c.requires.packed.sized)
 
-pub overflow-add-next : goal.overflow-add-next
-overflow-add-next c =
+pub overflow_add-next : goal.overflow_add-next
+overflow_add-next c =
     let room = laid_room (graph_of c.args.net.now) (packed_within c.args.net.now c.requires.packed) (at c.args.order.now) (at c.loop-t.order) (at c.loop-t.begins) (at c.loop-t.ends) c.loop-t.next c.loop-t.t
     c.loop-t-test.true c.loop-t.invariant.1 (sym (c.requires.named c.loop-t.t c.loop-t-test.true) ∙ c.if-triggers-t.true) (at c.grow-len.new.members) c.grow-len.result.len c.grow-len.ensures.grown in
     omega (arith, room, c.requires.packed.sized)
 
-pub overflow-cast-ends : goal.overflow-cast-ends
-overflow-cast-ends c =
+pub overflow_cast-ends : goal.overflow_cast-ends
+overflow_cast-ends c =
     let room = laid_room (graph_of c.args.net.now) (packed_within c.args.net.now c.requires.packed) (at c.args.order.now) (at c.loop-t.order) (at c.loop-t.begins) (at c.loop-t.ends) c.loop-t.next c.loop-t.t
     c.loop-t-test.true c.loop-t.invariant.1 (sym (c.requires.named c.loop-t.t c.loop-t-test.true) ∙ c.if-triggers-t.true) (at c.grow-len.new.members) c.grow-len.result.len c.grow-len.ensures.grown in
     omega (arith, room, c.requires.packed.sized)
@@ -51,7 +51,7 @@ loop-t-preserved c =
         laid_same g (at c.args.order.now) (c.loop-t.t + 1) _ _ _ _ _ _ _ _ w.order-is w.begins-is w.ends-is w.next-is
             (turn_lays g within (omega (arith, c.requires.packed.sized)) (at c.args.order.now) c.loop-t.order c.loop-t.begins c.loop-t.ends c.loop-t.next c.loop-t.t
             c.loop-t-test.true c.loop-t.invariant.1 (sym named ∙ w.if-triggers-t.true) (at w.grow-len.new.members) w.grow-len.result.len w.grow-len.ensures.grown
-            w.write-stretch.new.order w.write-stretch.ensures c.loop-t.invariant.2 c.loop-t.invariant.3),
+            w.write_stretch.new.order w.write_stretch.ensures c.loop-t.invariant.2 c.loop-t.invariant.3),
         ap length w.begins-is ∙ length-set c.loop-t.begins _ _ ∙ c.loop-t.invariant.2,
         ap length w.ends-is ∙ length-set c.loop-t.ends _ _ ∙ c.loop-t.invariant.3,
       )

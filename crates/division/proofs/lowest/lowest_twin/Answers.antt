@@ -24,8 +24,8 @@ reaches-requires c = record {
   };
 }
 
-pub lowest-member-requires : goal.lowest-member-requires
-lowest-member-requires c = record {
+pub lowest_member-requires : goal.lowest_member-requires
+lowest_member-requires c = record {
   packed = c.requires.packed;
   ringed = record {
     known = c.requires.place;

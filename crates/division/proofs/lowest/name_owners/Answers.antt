@@ -3,7 +3,7 @@ use Rattle.network.specs.Packed.{graph_of}
 use Rattle.structures.proofs.Held.{held_self}
 use Rattle.division.proofs.lowest.name_owners.Goals as goal
 
-pub overflow-cast-names : goal.overflow-cast-names
-overflow-cast-names c =
+pub overflow_cast-names : goal.overflow_cast-names
+overflow_cast-names c =
     let g = graph_of c.args.net.now in
-    omega (arith, c.lowest-twin-low.ensures.lowest.lowest c.loop-u.u (held_self g c.loop-u.u, held_self g c.loop-u.u), c.loop-u-test.true, c.requires.packed.sized)
+    omega (arith, c.lowest_twin-low.ensures.lowest.lowest c.loop-u.u (held_self g c.loop-u.u, held_self g c.loop-u.u), c.loop-u-test.true, c.requires.packed.sized)

@@ -20,8 +20,8 @@ bounds-net-i c =
     part_index c.args.net.now c.requires.packed (at c.args.members.now c.args.from) c.loop-i.i
     (held_place (graph_of c.args.net.now) (packed_within c.args.net.now c.requires.packed) c.requires.ringed.known (c.requires.ringed.grown.only c.args.from c.requires.within)) c.loop-i-test.true
 
-pub link-reach-one-requires : goal.link-reach-one-requires
-link-reach-one-requires c =
+pub link_reach-one-requires : goal.link_reach-one-requires
+link_reach-one-requires c =
     let n = c.args.net.now in
     let x = at c.args.members.now c.args.from in
     let here = held_place (graph_of n) (packed_within n c.requires.packed) c.requires.ringed.known (c.requires.ringed.grown.only c.args.from c.requires.within) in
@@ -45,9 +45,9 @@ loop-i-preserved c =
     let here = held_place (graph_of n) (packed_within n c.requires.packed) c.requires.ringed.known (c.requires.ringed.grown.only c.args.from c.requires.within) in
     elim c.if-best-one.branch [
       | then-best-one w ↦ reaching_more n c.requires.packed c.args.u c.args.len (at c.args.spots.now) x c.loop-i.best c.loop-i.i here c.loop-i.auto.i c.loop-i-test.true c.loop-i.invariant
-          c.link-reach-one.result c.link-reach-one.ensures c.if-best-one.best (omega (arith, w.best-is, w.if-best-one.true)) (omega (arith, w.best-is)) (inr w.best-is)
+          c.link_reach-one.result c.link_reach-one.ensures c.if-best-one.best (omega (arith, w.best-is, w.if-best-one.true)) (omega (arith, w.best-is)) (inr w.best-is)
       | else-best-one w ↦ reaching_more n c.requires.packed c.args.u c.args.len (at c.args.spots.now) x c.loop-i.best c.loop-i.i here c.loop-i.auto.i c.loop-i-test.true c.loop-i.invariant
-          c.link-reach-one.result c.link-reach-one.ensures c.if-best-one.best (omega (arith, w.best-is)) (omega (arith, w.best-is, w.if-best-one.false)) (inl w.best-is)
+          c.link_reach-one.result c.link_reach-one.ensures c.if-best-one.best (omega (arith, w.best-is)) (omega (arith, w.best-is, w.if-best-one.false)) (inl w.best-is)
     ]
 
 pub returns : goal.returns

@@ -1,7 +1,7 @@
 use Rattle.division.proofs.tests.network.Goals as goal
 
-pub ends-hold-requires : goal.ends-hold-requires
-ends-hold-requires c = c.if-places-gt2048.false
+pub ends_hold-requires : goal.ends_hold-requires
+ends_hold-requires c = c.if-places-gt2048.false
 
-pub tails-hold-requires : goal.tails-hold-requires
-tails-hold-requires c = c.if-places-gt2048.false
+pub tails_hold-requires : goal.tails_hold-requires
+tails_hold-requires c = c.if-places-gt2048.false

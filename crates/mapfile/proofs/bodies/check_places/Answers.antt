@@ -1,4 +1,4 @@
-use Rattle.std.proofs.Common.{◌≡◌, Err, sym, ap, ◌∙◌, arith}
+use Rattle.std.proofs.Common.{Err, sym, ap, ◌∙◌, arith}
 use Rattle.std.proofs.lemmas.Result.{err_from_is_err_and}
 use Rattle.mapfile.specs.Bodies.{nth_place, place_at}
 use Rattle.mapfile.specs.Bytes.{long}
@@ -11,18 +11,18 @@ loop-i-preserved c =
     let b = c.args.part.bytes.now in
     let i = c.loop-i.i in
     let at = c.args.part.first in
-    let e = sym (place_is b at i c.loop-i.before c.loop-i.invariant.1) ∙ sym c.check-place.ensures ∙ c.in-ok-before.was in (
+    let e = sym (place_is b at i c.loop-i.before c.loop-i.invariant.1) ∙ sym c.check_place.ensures ∙ c.in_ok-before.was in (
       each_on (nth_place b at) i (long (place_at b i) 0) _ c.loop-i.invariant.0 e,
       site_next b i _ (told_of_ok (nth_place b at i) (long (place_at b i) 0) _ e),
     )
 
-pub returns-in-err-before : goal.returns-in-err-before
-returns-in-err-before c =
+pub returns-in_err-before : goal.returns-in_err-before
+returns-in_err-before c =
     let b = c.args.part.bytes.now in
     let i = c.loop-i.i in
     let at = c.args.part.first in
-    let e = sym (place_is b at i c.loop-i.before c.loop-i.invariant.1) ∙ sym c.check-place.ensures ∙ c.in-err-before.was in
-    let p = err_from_is_err_and c.from-residual.result c.from-residual.ensures.1 in
+    let e = sym (place_is b at i c.loop-i.before c.loop-i.invariant.1) ∙ sym c.check_place.ensures ∙ c.in_err-before.was in
+    let p = err_from_is_err_and c.from_residual.result c.from_residual.ensures.1 in
     p.1 ∙ ap Err p.2 ∙ sym (each_breach (nth_place b at) c.args.counts.places i (long (place_at b i) 0) (tt {0}) _ c.loop-i-test.true c.loop-i.invariant.0 e)
 
 pub returns : goal.returns

@@ -1,4 +1,4 @@
-use Rattle.std.proofs.Common.{◌≡◌, Err, sym, ap, ◌∙◌, arith}
+use Rattle.std.proofs.Common.{Err, sym, ap, ◌∙◌, arith}
 use Rattle.std.proofs.lemmas.Result.{err_from_is_err_and}
 use Rattle.mapfile.specs.Bodies.{nth_signal}
 use Rattle.mapfile.proofs.Cuts.{signal_is}
@@ -10,16 +10,16 @@ loop-i-preserved c =
     let b = c.args.part.bytes.now in
     let i = c.loop-i.i in
     let at = c.args.part.first in
-    let e = sym (signal_is b at i) ∙ sym c.check-signal.ensures ∙ c.in-ok-check-signal.was in
+    let e = sym (signal_is b at i) ∙ sym c.check_signal.ensures ∙ c.in_ok-check_signal.was in
     each_on (nth_signal b at) i (tt {0}) _ c.loop-i.invariant e
 
-pub returns-in-err-check-signal : goal.returns-in-err-check-signal
-returns-in-err-check-signal c =
+pub returns-in_err-check_signal : goal.returns-in_err-check_signal
+returns-in_err-check_signal c =
     let b = c.args.part.bytes.now in
     let i = c.loop-i.i in
     let at = c.args.part.first in
-    let e = sym (signal_is b at i) ∙ sym c.check-signal.ensures ∙ c.in-err-check-signal.was in
-    let p = err_from_is_err_and c.from-residual.result c.from-residual.ensures.1 in
+    let e = sym (signal_is b at i) ∙ sym c.check_signal.ensures ∙ c.in_err-check_signal.was in
+    let p = err_from_is_err_and c.from_residual.result c.from_residual.ensures.1 in
     p.1 ∙ ap Err p.2 ∙ sym (each_breach (nth_signal b at) c.args.counts.signals i (tt {0}) (tt {0}) _ c.loop-i-test.true c.loop-i.invariant e)
 
 pub returns : goal.returns

@@ -4,8 +4,8 @@ use Rattle.queues.specs.declared.entry.Entry.{Entry}
 use Rattle.queues.proofs.Writes.{entry_past}
 use Rattle.queues.proofs.cells.floor_of.Goals as goal
 
-pub returns-then-is-empty : goal.returns-then-is-empty
-returns-then-is-empty g c =
+pub returns-then-is_empty : goal.returns-then-is_empty
+returns-then-is_empty g c =
     let cells = c.args.cells.now in
-    let none : length cells ≤ 0 = omega (arith, eqb-true (length cells) 0 (sym c.if-is-empty.ensures)) in
+    let none : length cells ≤ 0 = omega (arith, eqb-true (length cells) 0 (sym c.if-is_empty.ensures)) in
     sym (ap (λ (x : Entry g.row.C.Denot). x.floor) (entry_past cells 0 none))

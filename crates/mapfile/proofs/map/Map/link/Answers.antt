@@ -1,4 +1,4 @@
-use Rattle.std.proofs.Common.{◌≡◌, Some, ap, ◌∙◌, arith}
+use Rattle.std.proofs.Common.{Some, ap, ◌∙◌, arith}
 use Rattle.mapfile.specs.Bytes.{byte, word}
 use Rattle.mapfile.specs.View.{signal_named}
 use Rattle.mapfile.proofs.Same.{same_link}
@@ -9,11 +9,11 @@ returns c =
     let e = c.record-bytes.ensures.bytes in
     record {
       known = λ h. ap Some (same_link _ _
-          (c.word-at.ensures ∙ ap (λ b. word b 0) e)
-          (c.word-at-2.ensures ∙ ap (λ b. word b 2) e)
-          (c.word-at-3.ensures ∙ ap (λ b. word b 4) e)
+          (c.word_at.ensures ∙ ap (λ b. word b 0) e)
+          (c.word_at-2.ensures ∙ ap (λ b. word b 2) e)
+          (c.word_at-3.ensures ∙ ap (λ b. word b 4) e)
           (ap (λ b. byte b 6) e)
-          (c.named-signal.ensures ∙ ap signal_named (c.word-at-4.ensures ∙ ap (λ b. word b 8) e))
-          (c.word-at-5.ensures ∙ ap (λ b. word b 10) e));
+          (c.named_signal.ensures ∙ ap signal_named (c.word_at-4.ensures ∙ ap (λ b. word b 8) e))
+          (c.word_at-5.ensures ∙ ap (λ b. word b 10) e));
       unknown = λ h. absurd (omega arith);
     }

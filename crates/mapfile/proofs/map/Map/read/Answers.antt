@@ -12,13 +12,13 @@ no_both r a b p q = let z : ◌≡◌ {A = ℕ} 0 1 = cc in absurd (omega arith)
 same_err : {A B : Type 0} (r : Result A B) (a b : B) → r ≡ Err a → r ≡ Err b → a ≡ b
 same_err r a b p q = cc
 
-pub returns-in-err-counts : goal.returns-in-err-counts
-returns-in-err-counts c =
+pub returns-in_err-counts : goal.returns-in_err-counts
+returns-in_err-counts c =
     let f = c.args.file.now in
-    let x = c.in-err-counts.field-0.0 in
-    let p = err_from_is_err_and c.from-residual.result c.from-residual.ensures.1 in
+    let x = c.in_err-counts.field-0.0 in
+    let p = err_from_is_err_and c.from_residual.result c.from_residual.ensures.1 in
     let r = p.1 ∙ ap Err p.2 in
-    let q = sym c.check-file.ensures ∙ c.in-err-counts.was in
+    let q = sym c.check_file.ensures ∙ c.in_err-counts.was in
     record {
       value = r ∙ sym (err_any (checks f) (counts f) (tt {0}) x q);
       accepts = λ h. absurd (no_both _ _ x h r);
@@ -28,19 +28,19 @@ returns-in-err-counts c =
       same = λ e h. refl;
     }
 
-pub invariant-of-self : goal.invariant-of-self
-invariant-of-self c =
+pub invariant_of-self : goal.invariant_of-self
+invariant_of-self c =
     let f = c.args.file.now in
-    let n = c.in-ok-counts.counts in
-    let h = sym c.check-file.ensures ∙ c.in-ok-counts.was in
+    let n = c.in_ok-counts.counts in
+    let h = sym c.check_file.ensures ∙ c.in_ok-counts.was in
     let r = rules_of_ok f n h in
-    (sized_of_ok f n h, (r.0, (r.1, (r.2, (r.3, (r.4, tt))))))
+    record { sized = sized_of_ok f n h; each_place = r.0; each_link = r.1; each_sign = r.2; each_signal = r.3; each_spare = r.4 }
 
 pub returns : goal.returns
 returns c =
     let f = c.args.file.now in
-    let n = c.in-ok-counts.counts in
-    let h = sym c.check-file.ensures ∙ c.in-ok-counts.was in
+    let n = c.in_ok-counts.counts in
+    let h = sym c.check_file.ensures ∙ c.in_ok-counts.was in
     record {
       value = sym (ok_of_kept (checks f) (tt {0}) (kept_of_ok (checks f) (counts f) n h));
       accepts = λ _. lawful_of_ok f n h;

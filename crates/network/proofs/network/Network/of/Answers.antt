@@ -26,8 +26,8 @@ bounds-heads-at c =
     let n = next_few (ends_graph e) e.sized.1 e.sized.0 c.loop-k.k c.loop-k.next c.loop-k.numbers c.loop-k.tails c.loop-k.heads c.loop-k.invariant c.loop-k-test.true c.if-ends-k.true w.0 in
     omega (arith, n)
 
-pub overflow-add-next : goal.overflow-add-next
-overflow-add-next c =
+pub overflow_add-next : goal.overflow_add-next
+overflow_add-next c =
     let e = c.args.ends.now in
     let w = e.within c.loop-k.k c.loop-k-test.true in
     let n = next_few (ends_graph e) e.sized.1 e.sized.0 c.loop-k.k c.loop-k.next c.loop-k.numbers c.loop-k.tails c.loop-k.heads c.loop-k.invariant c.loop-k-test.true c.if-ends-k.true w.0 in

@@ -3,17 +3,17 @@ use Rattle.planner.specs.Stations.{stationed}
 use Rattle.planner.proofs.Count.{lifted}
 use Rattle.planner.proofs.planner.Planner.lift.Goals as goal
 
-pub overflow-sub-self : goal.overflow-sub-self
-overflow-sub-self c =
+pub overflow_sub-self : goal.overflow_sub-self
+overflow_sub-self c =
     let p = c.args.self.now in
     let e = ap (λ n. n.places) c.counts.ensures in
     let lt : c.args.place < length p.stations = omega (arith, e, p.map.sized, p.sized) in
-    omega (arith, lifted p.stations c.args.place p.standing lt p.counted (sym c.if-not-has-station.ensures))
+    omega (arith, lifted p.stations c.args.place p.standing lt p.counted (sym c.if-not-has_station.ensures))
 
 pub invariant-of-self : goal.invariant-of-self
 invariant-of-self c =
     let p = c.args.self.now in
     let e = ap (λ n. n.places) c.counts.ensures in
     let lt : c.args.place < length p.stations = omega (arith, e, p.map.sized, p.sized) in
-    let one : p.standing - 1 ≡ stationed (set p.stations c.args.place None) = omega (arith, lifted p.stations c.args.place p.standing lt p.counted (sym c.if-not-has-station.ensures)) in
+    let one : p.standing - 1 ≡ stationed (set p.stations c.args.place None) = omega (arith, lifted p.stations c.args.place p.standing lt p.counted (sym c.if-not-has_station.ensures)) in
     ((simp length-set p.sized.0, p.sized.1), (one, tt))

@@ -3,6 +3,6 @@ use Rattle.queue_row.proofs.row.RowCostQueue.clear.Goals as goal
 
 pub returns : goal.returns
 returns g c = record {
-  state = cleared_state c.args.self.now.entries.now c.set-floor.new.cells c.set-floor.ensures;
-  kept = empty_tidy c.set-floor.new.cells;
+  state = cleared_state c.args.self.now.entries.now c.set_floor.new.cells c.set_floor.ensures;
+  kept = empty_tidy c.set_floor.new.cells;
 }
