@@ -1,5 +1,5 @@
 -- What a list of steps does to a cost, for any lawful meaning.
-use Rattle.std.proofs.Common.{◌≡◌, ℕ, ◌+◌, ◌<◌, false, List, [], ◌∷◌, ◌++◌, length, get_or, take}
+use Rattle.std.proofs.Common.{◌≡◌, ℕ, ◌+◌, ◌<◌, false, List, [], ◌∷◌, length, get_or, take}
 use Rattle.kinds.proofs.Order.{not_less_self, not_greater_trans}
 use Rattle.kinds.specs.Laws.{Laws}
 use Rattle.kinds.specs.Meaning.{Meaning}

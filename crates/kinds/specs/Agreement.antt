@@ -1,5 +1,5 @@
 -- How the kinds stand to one another, over any list of links.
-use Rattle.std.specs.Prelude.{◌≡◌, ℕ, ◌≤◌, List, [], ◌∷◌, map, None}
+use Rattle.std.specs.Prelude.{◌≡◌, ℕ, ◌≤◌, List, map, None}
 use Rattle.kinds.specs.Clock.{clock}
 use Rattle.kinds.specs.Running.{running_time}
 use Rattle.kinds.specs.Meaning.{Meaning}

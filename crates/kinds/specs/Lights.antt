@@ -1,10 +1,10 @@
 -- Signals: the next green moment, and how it grows with the moment.
 use Rattle.std.proofs.Math.Arith.{digits_mod}
-use Rattle.std.specs.Prelude.{◌≡◌, ℕ, ◌+◌, ◌-◌, ◌*◌, ◌/◌, ◌%◌, ◌<◌, ◌≤◌, true, false, nat_lt, refl}
-use Rattle.std.proofs.Common.{⊎_elim, sym, ◌∙◌, ap, div-add-mod', mod-lt, add-mul, add-zero, arith}
+use Rattle.std.specs.Prelude.{◌≡◌, ℕ, ◌+◌, ◌-◌, ◌*◌, ◌/◌, ◌%◌, ◌<◌, ◌≤◌, nat_lt}
+use Rattle.std.proofs.Common.{⊎_elim, ◌∙◌, ap, div-add-mod', mod-lt, add-mul, add-zero, arith}
 use Rattle.kinds.specs.Green.{phase_of, Green, Begun, NextGreen, next_green}
 use Rattle.mapfile.specs.declared.signal.Signal.{Signal}
-use Rattle.std.proofs.lemmas.Bool.{cases_lt, cases_Bool, cond_both, ltb-true, ltb-false}
+use Rattle.std.proofs.lemmas.Bool.{cases_lt, cond_both, ltb-true, ltb-false}
 
 -- how many cycles, a cycle ahead, lie before x
 abbrev pub laps : Signal → ℕ → ℕ

@@ -1,5 +1,5 @@
 -- Time then turns: the sooner is cheaper, and of two equally soon the one with fewer turns.
-use Rattle.std.specs.Prelude.{ℕ, ◌+◌, ◌≤◌, Bool, cond, ◌==◌, nat_le, nat_lt}
+use Rattle.std.specs.Prelude.{◌+◌, ◌≤◌, Bool, cond, ◌==◌, nat_le, nat_lt}
 use Rattle.kinds.specs.Cut.{top, cut}
 use Rattle.kinds.specs.Delays.{elapsed_on}
 use Rattle.kinds.specs.Meaning.{Meaning}
