@@ -1,7 +1,7 @@
-use Rattle.std.proofs.Common.{◌≡◌, ℕ, ◌+◌, ◌<◌, ◌≤◌, true, false, get_or, is_some, Some, Option, sym, refl, ap, ◌∙◌, subst, arith}
+use Rattle.std.proofs.Common.{◌≡◌, ◌<◌, false, is_some, Some, Option, refl, ap, arith}
 use Rattle.mapfile.specs.View.{link_of}
 use Rattle.network.specs.Drawn.{map_graph}
-use Rattle.network.proofs.Drawing.{Sketch, table_none, table_more}
+use Rattle.network.proofs.Drawing.{table_none, table_more}
 use Rattle.network.proofs.ends.Ends.of.Goals as goal
 
 same_some : {A : Type 0} (o : Option A) (a b : A) → o ≡ Some a → o ≡ Some b → b ≡ a
@@ -32,21 +32,20 @@ loop-k-preserved c =
       head_ends = table_more g.head 0 k c.loop-k.heads _ c.loop-k.invariant.head_ends few (ap (λ x. x.to) l);
     }
 
-pub invariant-of-result : goal.invariant-of-result
-invariant-of-result c =
+pub invariant_of-result : goal.invariant_of-result
+invariant_of-result c =
     let m = c.args.map.now in
     let e = ap (λ n. n.links) c.counts-counts.ensures in
     let p = ap (λ n. n.places) c.counts-counts.ensures in
-    let i = c.loop-k.invariant in (
-      (omega (arith, p, m.sized), omega (arith, e, m.sized), i.open_links.long, i.tail_ends.long, i.head_ends.long),
-      (
-        (λ k h.
-            let lt : k < m.counts.links = omega (arith, e) in
-            let at : k < c.loop-k.k = omega arith in
-            (omega (arith, i.tail_ends.each k at, m.each_link k lt, p), omega (arith, i.head_ends.each k at, m.each_link k lt, p))),
-        tt,
-      ),
-    )
+    let i = c.loop-k.invariant in
+    record {
+      sized = (omega (arith, p, m.sized), omega (arith, e, m.sized), i.open_links.long, i.tail_ends.long, i.head_ends.long);
+      within =
+          λ k h.
+          let lt : k < m.counts.links = omega (arith, e) in
+          let at : k < c.loop-k.k = omega arith in
+          (omega (arith, i.tail_ends.each k at, m.each_link k lt, p), omega (arith, i.head_ends.each k at, m.each_link k lt, p));
+    }
 
 pub returns : goal.returns
 returns c =

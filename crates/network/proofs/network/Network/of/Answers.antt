@@ -1,4 +1,4 @@
-use Rattle.std.proofs.Common.{◌≡◌, ◌+◌, ◌<◌, get_or, sym, refl, ap, ◌∙◌, subst, arith}
+use Rattle.std.proofs.Common.{◌≡◌, ◌+◌, refl, subst, arith}
 use Rattle.network.specs.Drawn.{ends_graph}
 use Rattle.network.proofs.Filled.{Filled, filled_none, filled_yes, filled_no, filled_same, next_few}
 use Rattle.network.proofs.Packing.{packed, sized_at, parts_at, ends_at, tails_at}
@@ -49,21 +49,18 @@ loop-k-preserved c =
       | else-ends-k w ↦ filled_same g (k + 1) w.next-is w.numbers-is w.tails-is w.heads-is (filled_no g e.sized.1 e.sized.0 k c.loop-k.next c.loop-k.numbers c.loop-k.tails c.loop-k.heads c.loop-k.invariant w.if-ends-k.false)
     ]
 
-pub invariant-of-result : goal.invariant-of-result
-invariant-of-result c =
+pub invariant_of-result : goal.invariant_of-result
+invariant_of-result c =
     let e = c.args.ends.now in
     let g = ends_graph e in
     let k : c.loop-k.k ≡ e.links = omega arith in
-    let f = subst (λ x. Filled g x c.loop-k.next c.loop-k.numbers c.loop-k.tails c.loop-k.heads) k c.loop-k.invariant in (
-      sized_at g e.sized.1 e.sized.0 e.within c.starts-first.result c.loop-k.next c.loop-k.numbers c.loop-k.tails c.loop-k.heads c.starts-first.ensures.starts c.starts-first.ensures.long f,
-      (
-        parts_at g e.sized.1 e.sized.0 e.within c.starts-first.result c.loop-k.next c.loop-k.numbers c.loop-k.tails c.loop-k.heads c.starts-first.ensures.starts c.starts-first.ensures.long f,
-        (
-          ends_at g e.sized.1 e.sized.0 e.within c.starts-first.result c.loop-k.next c.loop-k.numbers c.loop-k.tails c.loop-k.heads c.starts-first.ensures.starts c.starts-first.ensures.long f,
-          (tails_at g e.sized.1 e.sized.0 e.within c.starts-first.result c.loop-k.next c.loop-k.numbers c.loop-k.tails c.loop-k.heads c.starts-first.ensures.starts c.starts-first.ensures.long f, tt),
-        ),
-      ),
-    )
+    let f = subst (λ x. Filled g x c.loop-k.next c.loop-k.numbers c.loop-k.tails c.loop-k.heads) k c.loop-k.invariant in
+    record {
+      sized = sized_at g e.sized.1 e.sized.0 e.within c.starts-first.result c.loop-k.next c.loop-k.numbers c.loop-k.tails c.loop-k.heads c.starts-first.ensures.starts c.starts-first.ensures.long f;
+      parts = parts_at g e.sized.1 e.sized.0 e.within c.starts-first.result c.loop-k.next c.loop-k.numbers c.loop-k.tails c.loop-k.heads c.starts-first.ensures.starts c.starts-first.ensures.long f;
+      ends = ends_at g e.sized.1 e.sized.0 e.within c.starts-first.result c.loop-k.next c.loop-k.numbers c.loop-k.tails c.loop-k.heads c.starts-first.ensures.starts c.starts-first.ensures.long f;
+      leaves = tails_at g e.sized.1 e.sized.0 e.within c.starts-first.result c.loop-k.next c.loop-k.numbers c.loop-k.tails c.loop-k.heads c.starts-first.ensures.starts c.starts-first.ensures.long f;
+    }
 
 pub returns : goal.returns
 returns c =
