@@ -1,5 +1,5 @@
 -- The number of stations as one place changes.
-use Rattle.std.proofs.Common.{◌≡◌, ℕ, zero, suc, ◌+◌, ◌<◌, true, false, cond, List, [], ◌∷◌, length, get_or, set, is_some, Some, None, Option, refl, arith}
+use Rattle.std.proofs.Common.{◌≡◌, ℕ, zero, suc, ◌+◌, ◌<◌, true, false, cond, List, [], ◌∷◌, length, get_or, set, is_some, Some, None, Option, arith}
 use Rattle.planner.specs.Stations.{stationed}
 
 abbrev one : Option ℕ → ℕ

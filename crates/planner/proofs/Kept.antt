@@ -1,5 +1,5 @@
 -- Each call keeps what every call book keeps.
-use Rattle.std.proofs.Common.{◌≡◌, ℕ, zero, suc, ◌+◌, ◌<◌, ◌≤◌, Bool, true, false, cond, not, ◌&&◌, ltb, leb, ◌≢◌, ◌⊎◌, List, [], ◌∷◌, length, get_or, set, replicate, is_some, Some, None, fold, Option, sym, refl, ap, ◌∙◌, inl, inr, ⊎_elim, arith, length-set, get_or-set_other, get_or-set_same}
+use Rattle.std.proofs.Common.{◌≡◌, ℕ, zero, suc, ◌<◌, ◌≤◌, Bool, true, false, List, [], ◌∷◌, length, get_or, set, replicate, is_some, Some, None, Option, sym, refl, ◌∙◌, ⊎_elim, arith, length-set, get_or-set_other, get_or-set_same}
 use lib.ListN.{length-replicate}
 use Rattle.std.proofs.lemmas.List.{get_or_past}
 use Rattle.std.proofs.lemmas.Bool.{cases_eq, cases_lt}
@@ -8,7 +8,7 @@ use Rattle.mapfile.specs.declared.counts.Counts.{Counts}
 use Rattle.planner.specs.declared.change.Change.{Change}
 use Rattle.planner.specs.declared.change.Change.TheVariants.{Place, Lift, Close, Reopen}
 use Rattle.planner.specs.declared.change.Refusal.{Refusal}
-use Rattle.planner.specs.Book.{Book, blank, has_station, is_closed, refusal, written, unless, after, after_all}
+use Rattle.planner.specs.Book.{Book, blank, has_station, refusal, written, unless, after, after_all}
 use Rattle.planner.specs.Sound.{Sound, BooksSound}
 use Rattle.planner.specs.Stations.{stationed}
 use Rattle.planner.proofs.Count.{lifted, replaced, placed}

@@ -1,5 +1,4 @@
 -- What a planner holds.
-use Rattle.std.specs.Prelude.{ℕ, List}
 use Rattle.planner.specs.declared.planner.Planner.{Planner}
 use Rattle.planner.specs.Book.{Book}
 

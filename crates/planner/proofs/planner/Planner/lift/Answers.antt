@@ -10,10 +10,10 @@ overflow_sub-self c =
     let lt : c.args.place < length p.stations = omega (arith, e, p.map.sized, p.sized) in
     omega (arith, lifted p.stations c.args.place p.standing lt p.counted (sym c.if-not-has_station.ensures))
 
-pub invariant-of-self : goal.invariant-of-self
-invariant-of-self c =
+pub invariant_of-self : goal.invariant_of-self
+invariant_of-self c =
     let p = c.args.self.now in
     let e = ap (λ n. n.places) c.counts.ensures in
     let lt : c.args.place < length p.stations = omega (arith, e, p.map.sized, p.sized) in
     let one : p.standing - 1 ≡ stationed (set p.stations c.args.place None) = omega (arith, lifted p.stations c.args.place p.standing lt p.counted (sym c.if-not-has_station.ensures)) in
-    ((simp length-set p.sized.0, p.sized.1), (one, tt))
+    record { sized = (simp length-set p.sized.0, p.sized.1); counted = one }

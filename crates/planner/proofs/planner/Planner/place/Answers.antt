@@ -4,8 +4,8 @@ use Rattle.planner.proofs.Count.{placed, replaced}
 use Rattle.planner.proofs.planner.Planner.place.Goals as goal
 use Rattle.planner.proofs.planner.Planner.place.Goals.{then-not-has_station+else-self-ge-MOST_STATIONS, else-not-has_station}
 
-pub invariant-of-self-2 : goal.invariant-of-self-2
-invariant-of-self-2 c =
+pub invariant_of-self-2 : goal.invariant_of-self-2
+invariant_of-self-2 c =
     let p = c.args.self.now in
     let e = ap (λ n. n.places) c.counts.ensures in
     let lt : c.args.place < length p.stations = omega (arith, e, p.map.sized, p.sized) in
@@ -13,4 +13,4 @@ invariant-of-self-2 c =
       | then-not-has_station+else-self-ge-MOST_STATIONS w ↦ ap (λ x. x.1.1.1.0) w.self-is ∙ placed p.stations c.args.place p.standing c.args.turnout lt p.counted (sym w.if-not-has_station.ensures)
       | else-not-has_station w ↦ ap (λ x. x.1.1.1.0) w.self-is ∙ replaced p.stations c.args.place p.standing c.args.turnout lt p.counted (sym w.if-not-has_station.ensures)
     ] in
-    ((simp length-set p.sized.0, p.sized.1), (new, tt))
+    record { sized = (simp length-set p.sized.0, p.sized.1); counted = new }
