@@ -13,7 +13,7 @@ use Rattle.network.specs.declared.network.Network.{Network}
 use Rattle.network.specs.Packed.{graph_of}
 use Rattle.division.specs.Lists.{at}
 use Rattle.division.specs.Keeping.{Packed}
-use Rattle.division.specs.Growing.{Member, Grown, approaches}
+use Rattle.division.specs.Growing.{Member, Grown}
 use Rattle.division.specs.Covering.{nobody, Called, StillCovered, Overwritten, Owned}
 use Rattle.division.proofs.Counts.{count_next}
 

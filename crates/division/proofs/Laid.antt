@@ -3,7 +3,7 @@ use Rattle.std.proofs.Common.{◌≡◌, ℕ, ◌+◌, ◌-◌, ◌<◌, ◌≤�
 use Rattle.std.proofs.lemmas.Bool.{cases_eq, cases_lt, cond-true, cond-false, lt-ltb, le-ltb, eqb-false, eq-eqb, ne_eqb, not-true, not_from_false}
 use Rattle.structures.specs.Graphs.{Graph, Within, Approach}
 use Rattle.structures.specs.Rivals.{Among}
-use Rattle.structures.specs.Computed.{count, trigger, triggers}
+use Rattle.structures.specs.Computed.{count, trigger}
 use Rattle.structures.proofs.Lists.{length_once, chosen, length_chosen, chosen_only, chosen_all, chosen_once}
 use Rattle.structures.proofs.Held.{Held, held_self, held_place, holder_place}
 use Rattle.structures.proofs.Maximal.{Top, top_twin}
