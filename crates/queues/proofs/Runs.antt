@@ -1,11 +1,11 @@
 -- Between two clears the costs handed out never fall.
-use Rattle.std.proofs.Common.{◌≡◌, ℕ, Bool, true, false, cond, eqb, ◌⊎◌, List, [], ◌∷◌, Some, None, Option, sym, refl, ap, ◌∙◌, subst, inl, inr, arith}
+use Rattle.std.proofs.Common.{◌≡◌, ℕ, Bool, true, false, eqb, ◌⊎◌, List, [], ◌∷◌, Some, None, Option, sym, refl, ap, ◌∙◌, subst, inl, inr, arith}
 use Rattle.std.proofs.lemmas.Bool.{cases_eq, cond-true, cond-false, eq-eqb, ne_eqb}
 use Rattle.kinds.specs.Meaning.{Meaning}
 use Rattle.kinds.specs.Laws.{Laws}
 use Rattle.queues.specs.State.{State, cleared, put, added, lowered, taken}
 use Rattle.queues.specs.Offers.{below, refusal_at, offered, offered_as, accepted_at}
-use Rattle.queues.specs.Takes.{Least, Took}
+use Rattle.queues.specs.Takes.{Least}
 use Rattle.queues.specs.Runs.{Run, NoneAbove, NeverFalls, CostsNeverFall}
 use Rattle.queues.specs.Runs.Run.{start, offer, take, idle}
 use Rattle.queues.proofs.Orders.{cheaper_up}

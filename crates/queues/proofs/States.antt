@@ -1,5 +1,5 @@
 -- From places to the state: what a change of the items means.
-use Rattle.std.proofs.Common.{◌≡◌, ℕ, zero, suc, ◌+◌, ◌-◌, ◌<◌, ◌≤◌, min, Bool, true, false, cond, eqb, ◌≢◌, ◌⊎◌, List, length, take, is_some, Some, None, Option, sym, refl, ap, ◌∙◌, inl, inr, arith}
+use Rattle.std.proofs.Common.{◌≡◌, ℕ, ◌+◌, ◌<◌, ◌≤◌, min, Bool, true, false, ◌≢◌, ◌⊎◌, List, length, take, is_some, Some, None, Option, sym, refl, ap, ◌∙◌, inl, inr, arith}
 use Rattle.std.proofs.lemmas.List.{get_or-take, length-take-le}
 use Rattle.std.proofs.lemmas.Bool.{cases_eq, cases_lt, both_ways}
 use Rattle.kinds.specs.Meaning.{Meaning}
@@ -13,7 +13,7 @@ use Rattle.queues.specs.Order.{cheaper, before}
 use Rattle.queues.specs.Cells.{entry, item, blank, seek, cells_state, Fit, Tidy, Nowhere, Found, Refloored}
 use Rattle.queues.proofs.Orders.{before_costs, before_numbers}
 use Rattle.queues.proofs.Writes.{entry_past}
-use Rattle.queues.proofs.Places.{Once, Here, look, seek_none, seek_at, seek_more, once_more, seek_recost, once_recost, seek_less, once_less}
+use Rattle.queues.proofs.Places.{Here, look, seek_none, seek_at, seek_more, once_more, seek_recost, once_recost, seek_less, once_less}
 
 module _ {Cost : Type 0} where
   pub same_state : (s t : State Cost) → ((n : ℕ) → s.at n ≡ t.at n) → s.waiting ≡ t.waiting → s.floor ≡ t.floor → s.takes ≡ t.takes → s.size ≡ t.size → s ≡ t

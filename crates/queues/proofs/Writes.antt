@@ -1,10 +1,9 @@
 -- What one written entry leaves of a list.
-use Rattle.std.proofs.Common.{◌≡◌, ℕ, ◌<◌, ◌≤◌, ◌≢◌, ◌⊎◌, List, length, get_or, set, Option, sym, refl, ap, ◌∙◌, inl, inr}
+use Rattle.std.proofs.Common.{◌≡◌, ℕ, ◌<◌, ◌≤◌, ◌≢◌, ◌⊎◌, List, length, get_or, set, Option, sym, ap, ◌∙◌, inl, inr}
 use Rattle.std.proofs.lemmas.List.{get_or-set_same, get_or-set_other, length-set, get_or_default, get_or_past}
 use Rattle.std.proofs.lemmas.Bool.{cases_eq}
-use Rattle.queues.specs.declared.entry.Item.{Item}
 use Rattle.queues.specs.declared.entry.Entry.{Entry}
-use Rattle.queues.specs.Cells.{entry, item, blank, Refloored}
+use Rattle.queues.specs.Cells.{entry, blank, Refloored}
 
 module _ {Cost : Type 0} where
   pub entry_here : (cells : List (Entry Cost)) (i : ℕ) (e : Entry Cost) → i < length cells → entry (set cells i e) i ≡ e

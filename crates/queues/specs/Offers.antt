@@ -1,5 +1,5 @@
 -- What an offer is answered, and what it leaves.
-use Rattle.std.specs.Prelude.{ℕ, Bool, true, false, cond, Some, None, Ok, Err, Option, Result, ◌==◌}
+use Rattle.std.specs.Prelude.{ℕ, Bool, false, cond, Some, None, Ok, Err, Option, Result, ◌==◌}
 use Rattle.queues.specs.declared.refusal.OfferRefusal.{OfferRefusal}
 use Rattle.queues.specs.declared.refusal.OfferRefusal.TheVariants.{BelowFloor, Full}
 use Rattle.queues.specs.State.{State, added, lowered}

@@ -65,6 +65,6 @@ pub trait Queue<K: Kind> {
 // A queue over a list that its maker lends: cleared, whatever the list held, and as large as the list is long.
 pub trait OverList<'a, K: Kind>: Queue<K> + Sized {
     fn over(entries: &'a mut [Entry<K::Cost>]) -> Self
-        ensures state { state result ≡ cleared (length entries.old) }
-        ensures kept { kept result };
+        ensures state { Self.state result ≡ cleared (length entries.old) }
+        ensures kept { Self.kept result };
 }
