@@ -1,11 +1,10 @@
 -- A line's meaning is the call that it spells.
-use Rattle.std.proofs.Common.{◌≡◌, ℕ, zero, suc, ◌+◌, ◌-◌, ◌<◌, ◌≤◌, Bool, true, false, cond, not, ◌&&◌, eqb, ltb, leb, List, [], ◌∷◌, ◌++◌, length, get_or, take, drop, Some, None, codes, Option, sym, refl, ap, ◌∙◌, subst, add-one, one-add, arith, length-append, length-drop}
+use Rattle.std.proofs.Common.{◌≡◌, ℕ, suc, ◌+◌, ◌-◌, ◌<◌, ◌≤◌, Bool, true, false, cond, ◌&&◌, eqb, ltb, leb, List, [], ◌∷◌, ◌++◌, length, get_or, take, drop, Some, None, codes, Option, sym, refl, ap, ◌∙◌, subst, add-one, one-add, arith, length-append, length-drop}
 use Rattle.std.proofs.lemmas.List.{take_all}
 use Rattle.std.proofs.lemmas.Bool.Decides.{nat_tests}
 use Rattle.planner.specs.declared.change.Change.{Change}
 use Rattle.planner.specs.declared.change.Change.TheVariants.{Place, Lift, Close, Reopen}
-use Rattle.std.proofs.lemmas.List.Sums.{prefix_len-le-length}
-use Rattle.console.specs.Grammar.{One, Two, Spells}
+use Rattle.console.specs.Grammar.{One, Spells}
 use Rattle.console.specs.Lines.{no_space, space, with_both, pair_of, single, by_letter, meaning}
 use Rattle.console.specs.Numerals.{is_digit, digits, number, Numeral}
 use Rattle.console.proofs.DigitByDigit.{numeral_of, of_numeral}

@@ -1,12 +1,11 @@
 -- What a line does: it is read, then its call is made.
-use Rattle.std.specs.Prelude.{ℕ, List, Some, None, Ok, Err, Option, Result}
+use Rattle.std.specs.Prelude.{Some, None, Ok, Err, Option, Result}
 use Rattle.mapfile.specs.declared.counts.Counts.{Counts}
 use Rattle.planner.specs.declared.change.Change.{Change}
 use Rattle.planner.specs.declared.change.Refusal.{Refusal}
 use Rattle.planner.specs.Book.{Book, after, reply}
 use Rattle.console.specs.declared.answer.Answer.{Answer}
 use Rattle.console.specs.declared.answer.Answer.TheVariants.{Done, Refused, Unreadable}
-use Rattle.console.specs.Lines.{meaning}
 
 abbrev pub answered : Result Unit Refusal → Answer
 answered (Ok _) = Done

@@ -2,7 +2,6 @@
 use Rattle.std.specs.Prelude.{ℕ, List, ◌++◌, codes, decimal}
 use Rattle.mapfile.specs.declared.fault.Layer.{Layer}
 use Rattle.mapfile.specs.declared.fault.Layer.TheVariants.{Contents, Body, Record}
-use Rattle.mapfile.specs.declared.fault.Fault.{Fault}
 use Rattle.mapfile.specs.Numbers as mapfile
 use Rattle.planner.specs.declared.change.Refusal.{Refusal}
 use Rattle.planner.specs.declared.change.Refusal.TheVariants.{UnknownNumber, TurnoutTooLong, StationsFull, AlreadySo}

@@ -1,4 +1,4 @@
-use Rattle.std.proofs.Common.{◌≡◌, sym, ap, ◌∙◌}
+use Rattle.std.proofs.Common.{sym, ◌∙◌}
 use Rattle.console.proofs.Spelling.{spelt_of_meaning, meaning_of_spelt}
 use Rattle.console.proofs.line.parse.Goals as goal
 

@@ -1,4 +1,4 @@
-use Rattle.std.proofs.Common.{◌≡◌, ◌+◌, ◌<◌, length, drop, sym, ap, ◌∙◌, arith}
+use Rattle.std.proofs.Common.{◌+◌, ◌<◌, length, drop, ap, ◌∙◌, arith}
 use Rattle.console.specs.Lines.{space}
 use Rattle.console.specs.Numerals.{number}
 use Rattle.console.proofs.Spelling.{rest_is, front_is, pair_late, pair_done}

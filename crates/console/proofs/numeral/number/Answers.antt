@@ -1,4 +1,4 @@
-use Rattle.std.proofs.Common.{◌≡◌, ◌<◌, ◌≤◌, get_or, take, Some, sym, ap, ◌∙◌, arith}
+use Rattle.std.proofs.Common.{◌≡◌, ◌≤◌, get_or, Some, sym, ap, ◌∙◌, arith}
 use Rattle.console.specs.Numerals.{digits, value}
 use Rattle.console.proofs.DigitByDigit.{digit_is, digits_more, value_more, power_more, none_empty, none_long, none_broken, none_great, some_read, whole, not_empty}
 use Rattle.console.proofs.numeral.number.Goals as goal
