@@ -1,15 +1,15 @@
 -- What the row's writes mean.
-use Rattle.std.proofs.Common.{◌≡◌, ℕ, suc, ◌+◌, ◌-◌, ◌<◌, ◌≤◌, min, Bool, true, false, ◌≢◌, List, length, is_some, Some, None, Ok, Err, Option, sym, refl, ap, ◌∙◌, subst, arith}
+use Rattle.std.proofs.Common.{◌≡◌, ℕ, ◌+◌, ◌<◌, min, Bool, true, false, ◌≢◌, List, length, Some, Ok, Err, sym, refl, ap, ◌∙◌, subst, arith}
 use Rattle.kinds.specs.Meaning.{Meaning}
 use Rattle.kinds.specs.Laws.{Laws}
 use Rattle.queues.specs.declared.entry.Item.{Item}
 use Rattle.queues.specs.declared.entry.Entry.{Entry}
 use Rattle.queues.specs.declared.refusal.OfferRefusal.TheVariants.{Full}
-use Rattle.queues.specs.State.{State, lowered, added, taken}
+use Rattle.queues.specs.State.{State, lowered, added}
 use Rattle.queues.specs.Offers.{below}
 use Rattle.queues.specs.Takes.{Took}
 use Rattle.queues.specs.Order.{before}
-use Rattle.queues.specs.Cells.{entry, item, cells_state, Fit, Tidy, Nowhere, Found, Refloored}
+use Rattle.queues.specs.Cells.{entry, item, cells_state, Tidy, Nowhere, Refloored}
 use Rattle.queues.proofs.Calls.{Offered, offer_full, offer_added, offer_kept, offer_lowered}
 use Rattle.queues.proofs.Places.{seek_none, seek_at}
 use Rattle.queues.proofs.States.{items_state, more_fit, more_state, recost_fit, recost_state, less_fit, less_state, least_from}
