@@ -8,7 +8,7 @@ legs = record {
   start = λ t. t;
   step = λ f. f.link.run;
   after = λ c s. min (c + s) 4294967295;
-  less = ltb;
+  less = nat_lt;
 }
 
 abbrev pub stages : Meaning (ℕ × ℕ) ℕ

@@ -90,7 +90,7 @@ fn said(answer: Result<(), OfferRefusal>) -> u8 {
 
 // Whether a queue answers every question as the plain list does.
 fn alike<K: Kind, Q: Queue<K>>(queue: &Q, plain: &Plain<'_, K::Cost>, number: u32) -> bool
-    requires { kept queue.now }
+    requires { Q.kept queue.now }
 {
     queue.size() == plain.size()
         && queue.waiting() == plain.waiting()
