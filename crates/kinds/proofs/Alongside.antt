@@ -12,7 +12,7 @@ use Rattle.kinds.specs.declared.facts.LinkFacts.{LinkFacts}
 use Rattle.kinds.specs.declared.turns.TimeAndTurns.{TimeAndTurns}
 use Rattle.kinds.specs.declared.turns.TurnStep.{TurnStep}
 use Rattle.std.proofs.lemmas.Bool.Decides.{nat_tests}
-use Rattle.std.specs.List.{AllByRecursion as All}
+use Rattle.std.specs.List.{AllByRecursion}
 
 same_time_after : (c : TimeAndTurns) (s : TurnStep) → (time_then_turns.after c s).time ≡ cut (c.time + s.elapsed)
 same_time_after c s = grind (arith, nat_tests)
@@ -43,7 +43,7 @@ never_earlier turnout links = never_earlier_from turnout turnout links (omega ar
 
 without_signals_from :
     (c n : ℕ) (links : List LinkFacts)
-    → c ≡ n → All (λ facts. facts.signal ≡ None) links
+    → c ≡ n → AllByRecursion (λ facts. facts.signal ≡ None) links
     → cost_from clock c (map clock.step links) ≡ cost_from running_time n (map running_time.step links)
 without_signals_from c n [] e none = e
 without_signals_from c n (l ∷ links) e none =

@@ -6,7 +6,7 @@ use Rattle.kinds.specs.Meaning.{Meaning}
 use Rattle.kinds.specs.Runs.{run_cost}
 use Rattle.kinds.specs.Turns.{time_then_turns}
 use Rattle.kinds.specs.declared.facts.LinkFacts.{LinkFacts}
-use Rattle.std.specs.List.{AllByRecursion as All}
+use Rattle.std.specs.List.{AllByRecursion}
 
 -- the cost of a run along links
 abbrev pub along : {Cost Step : Type 0} → Meaning Cost Step → ℕ → List LinkFacts → Cost
@@ -23,5 +23,5 @@ NeverEarlier = (turnout : ℕ) (links : List LinkFacts) → along running_time t
 -- and where no link ends at a signal, it is the running time
 abbrev pub WithoutSignals : Type 0
 WithoutSignals =
-    (turnout : ℕ) (links : List LinkFacts) → All (λ facts. facts.signal ≡ None) links
+    (turnout : ℕ) (links : List LinkFacts) → AllByRecursion (λ facts. facts.signal ≡ None) links
     → along clock turnout links ≡ along running_time turnout links
