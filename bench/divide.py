@@ -1,13 +1,13 @@
 #!/usr/bin/env python3
 """Instructions per open link that `mapdivide` spends on packing and dividing a map, by family and size.
 
-Needs valgrind, and the program (`rt check mapdivide`). The program divides as often as its argument says; what is counted is eleven times less once,
+Needs valgrind, and the program (bench/README.md builds it). The program divides as often as its argument says; what is counted is eleven times less once,
 so start-up, reading and printing are not in the figures.
 """
 import os, random, re, struct, subprocess, sys, tempfile
 
 HERE = os.path.dirname(os.path.abspath(__file__))
-PROGRAM = os.path.join(HERE, '..', 'target', 'bin', 'mapdivide')
+PROGRAM = os.path.join(HERE, '..', 'crates', 'mapdivide', 'out', 'mapdivide')
 SIZES = [256, 512, 1024, 2048]
 
 
