@@ -1,5 +1,5 @@
 -- Clock: the moment at which the place is reached, waits at signals included.
-use Rattle.std.specs.Prelude.{◌≡◌, ℕ, ◌+◌, ◌≤◌, ltb, Some, None, Option}
+use Rattle.std.specs.Prelude.{◌≡◌, ℕ, ◌+◌, ◌≤◌, nat_lt, Some, None, Option}
 use Rattle.kinds.specs.Cut.{top, cut}
 use Rattle.kinds.specs.Delays.{elapsed_on}
 use Rattle.kinds.specs.Green.{NextGreen, next_green}
@@ -28,7 +28,7 @@ clock =
       start = λ turnout. turnout;
       step = λ facts. record { elapsed = elapsed_on facts.link; signal = facts.signal };
       after = λ c s. cut (waited s.signal (c + s.elapsed));
-      less = ltb;
+      less = nat_lt;
     }
 
 -- every step of the clock, over all moments

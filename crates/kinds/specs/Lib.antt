@@ -8,5 +8,5 @@ pub mod Green
 pub mod Clock
 pub mod Runs
 pub mod Agreement
-pub mod Moments
 pub mod Lights
+pub mod Moments

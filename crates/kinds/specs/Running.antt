@@ -1,5 +1,5 @@
 -- Running time: how many tenths of a second after the call.
-use Rattle.std.specs.Prelude.{ℕ, ◌+◌, ◌≤◌, ltb}
+use Rattle.std.specs.Prelude.{ℕ, ◌+◌, ◌≤◌, nat_lt}
 use Rattle.kinds.specs.Cut.{top, cut}
 use Rattle.kinds.specs.Delays.{elapsed_on}
 use Rattle.kinds.specs.Meaning.{Meaning}
@@ -11,5 +11,5 @@ running_time =
       start = λ turnout. turnout;
       step = λ facts. elapsed_on facts.link;
       after = λ c e. cut (c + e);
-      less = ltb;
+      less = nat_lt;
     }
