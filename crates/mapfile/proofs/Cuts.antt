@@ -1,32 +1,96 @@
--- A body's records as its loop cuts them out.
-use Rattle.std.proofs.Common.{◌≡◌, ℕ, suc, ◌+◌, ◌-◌, ◌*◌, ◌<◌, ◌≤◌, List, take, drop, mul-le-mul_left, mul-suc, add-one, arith}
+-- A body's records as the loop over them has come to them.
+use Rattle.std.proofs.Common.{◌≡◌, ℕ, ◌+◌, ◌-◌, ◌*◌, ◌<◌, ◌≤◌, List, ◌++◌, length, take, drop, Ok, Err, sym, ap, ◌∙◌, subst, add-one, arith, length-append, length-drop, drop-drop, mul-suc}
+use Rattle.std.proofs.Math.Seq.{take-append_seam, drop-append_seam}
+use Rattle.mapfile.specs.declared.body.BodyKind.{BodyKind}
+use Rattle.mapfile.specs.declared.body.BodyKind.TheVariants.{Places, Links, Signals}
 use Rattle.mapfile.specs.declared.counts.Counts.{Counts}
-use Rattle.mapfile.specs.Bodies.{nth_place, nth_link, nth_signal, place_at, link_at, site_before, from_before}
-use Rattle.mapfile.specs.Bytes.{word, long, part}
-use Rattle.mapfile.specs.Checks.{answer}
-use Rattle.mapfile.specs.Records.{place_checks, link_checks, signal_checks}
+use Rattle.mapfile.specs.declared.fault.Fault.{Fault}
+use Rattle.mapfile.specs.Bodies.{Shown, body_of, record_at, key, key_before, record_checks, nth, body_checks}
+use Rattle.mapfile.specs.Bytes.{part}
+use Rattle.mapfile.specs.Checks.{Check, answer, each, AllKept}
+use Rattle.mapfile.specs.Codes.{size}
+use Rattle.mapfile.specs.Layout.{start, count}
+use Rattle.mapfile.proofs.Lists.{each_on, each_done, each_breach, told_of_ok}
 
-pub cut : (b : List ℕ) (at size : ℕ) → take (at + size - at) (drop at b) ≡ part b at size
-cut b at size = let e : at + size - at ≡ size = omega arith in rw e
+-- the checks of a body's i-th record
+abbrev pub checks_at : Shown → Counts → ℕ → List Check
+checks_at s n i = nth s.kind s.bytes s.first n i
 
-pub place_is : (b : List ℕ) (first i before : ℕ) → before ≡ site_before b i → answer (place_checks (take (4 * i + 4 - 4 * i) (drop (4 * i) b)) (first + 4 * i) before) (long (take (4 * i + 4 - 4 * i) (drop (4 * i) b)) 0) ≡ answer (nth_place b first i) (long (place_at b i) 0)
-place_is b first i before h = rw (cut b (4 * i) 4, h)
+-- the first i records of a body are kept, and the rest is still to be cut
+pub record Checked (s : Shown) (n : Counts) (i before : ℕ) (rest : List ℕ) (cut : ℕ) : Type 0 where
+  pub long : length s.bytes ≡ size s.kind * count n s.kind
+  pub kept : AllKept (each i (checks_at s n))
+  pub last : before ≡ key_before s.kind s.bytes i
+  pub within : i ≤ count n s.kind
+  pub left : rest ≡ drop (size s.kind * i) s.bytes
+  pub whole : cut ≡ size s.kind
 
-pub link_is : (b : List ℕ) (first i before : ℕ) (n : Counts) → before ≡ from_before b i → answer (link_checks (take (12 * i + 12 - 12 * i) (drop (12 * i) b)) (first + 12 * i) n before) (word (take (12 * i + 12 - 12 * i) (drop (12 * i) b)) 0) ≡ answer (nth_link b first n i) (word (link_at b i) 0)
-link_is b first i before n h = rw (cut b (12 * i) 12, h)
+-- a record more lies within the body, or none
+more : (k : BodyKind) (i m : ℕ) → size k ≤ size k * m - size k * i → i < m
+more Places i m h = omega arith
+more Links i m h = omega arith
+more Signals i m h = omega arith
 
-pub signal_is : (b : List ℕ) (first i : ℕ) → answer (signal_checks (take (8 * i + 8 - 8 * i) (drop (8 * i) b)) (first + 8 * i)) (tt {0}) ≡ answer (nth_signal b first i) (tt {0})
-signal_is b first i = rw (cut b (8 * i) 8)
+none : (k : BodyKind) (i m : ℕ) → i ≤ m → size k * m - size k * i < size k → i ≡ m
+none Places i m l h = omega arith
+none Links i m l h = omega arith
+none Signals i m l h = omega arith
 
-pub site_next : (b : List ℕ) (i s : ℕ) → s ≡ long (place_at b i) 0 → s ≡ site_before b (i + 1)
-site_next b i s h = rw add-one h
+module _ (s : Shown) (n : Counts) (i before : ℕ) (rest : List ℕ) (cut : ℕ) (h : Checked s n i before rest cut) where
+  length_left : length rest ≡ size s.kind * count n s.kind - size s.kind * i
+  length_left = ap length h.left ∙ length-drop (size s.kind * i) s.bytes ∙ ap (λ m. m - size s.kind * i) h.long
 
-pub from_next : (b : List ℕ) (i s : ℕ) → s ≡ word (link_at b i) 0 → s ≡ from_before b (i + 1)
-from_next b i s h = rw add-one h
+  pub all_kept : length rest < cut → Ok (tt {0}) ≡ answer (body_checks s n) (tt {0})
+  all_kept few = each_done (checks_at s n) (count n s.kind) i tt (none s.kind i (count n s.kind) h.within (omega (arith, few, h.whole, length_left))) h.kept
 
--- a record lies within its body
-pub within : (size same i n all : ℕ) → size ≡ same → all ≡ same * n → i < n → size * i + size ≤ all
-within size same i n all e f h =
-    let m : size * suc i ≤ size * n = mul-le-mul_left {m = suc i} {n = n} size h in
-    let a : size * n ≡ same * n = rw e in
-    omega (arith, m, mul-suc size i, a, f)
+  module _ (x after : List ℕ) (parts : rest ≡ x ++ after) (cut_off : length x ≡ cut) where
+    -- what is cut off is the next record
+    cut_is : x ≡ record_at s.kind s.bytes i
+    cut_is =
+        let P : ℕ → Type 0 = λ m. take m (drop (size s.kind * i) s.bytes) ≡ x in
+        let Q : List ℕ → Type 0 = λ r. take (length x) r ≡ x in
+        sym (subst P (cut_off ∙ h.whole) (subst Q h.left (subst Q (sym parts) (take-append_seam x after))))
+
+    left_next : after ≡ drop (size s.kind * (i + 1)) s.bytes
+    left_next =
+        let l : length x ≡ size s.kind = cut_off ∙ h.whole in
+        let Q : List ℕ → Type 0 = λ r. drop (length x) r ≡ after in
+        let d : drop (length x) (drop (size s.kind * i) s.bytes) ≡ after = subst Q h.left (subst Q (sym parts) (drop-append_seam x after)) in
+        let g : size s.kind * i + length x ≡ size s.kind * (i + 1) = rw add-one (omega (arith, l, mul-suc (size s.kind) i)) in
+        let P : ℕ → Type 0 = λ m. after ≡ drop m s.bytes in
+        subst P g (sym d ∙ drop-drop (length x) (size s.kind * i) s.bytes)
+
+    below : i < count n s.kind
+    below = more s.kind i (count n s.kind) (omega (arith, length_left, ap length parts, length-append x after, cut_off, h.whole))
+
+    module _ (at : ℕ) (e : at ≡ s.first + size s.kind * i) where
+      -- its checks are those of the i-th record
+      checks_are : {A : Type 0} (a : A) → answer (record_checks s.kind x at n before) a ≡ answer (checks_at s n i) a
+      checks_are a =
+          ap (λ m. answer (record_checks s.kind x m n before) a) e
+          ∙ ap (λ r. answer (record_checks s.kind r (s.first + size s.kind * i) n before) a) cut_is
+          ∙ ap (λ q. answer (record_checks s.kind (record_at s.kind s.bytes i) (s.first + size s.kind * i) n q) a) h.last
+
+      pub first_broken : {A : Type 0} (a : A) (f : Fault) → answer (record_checks s.kind x at n before) a ≡ Err f → answer (body_checks s n) (tt {0}) ≡ Err f
+      first_broken a f o = each_breach (checks_at s n) (count n s.kind) i a (tt {0}) f below h.kept (sym (checks_are a) ∙ o)
+
+      pub one_more : (v j cut' : ℕ) → answer (record_checks s.kind x at n before) (key s.kind x) ≡ Ok v → j ≡ i + 1 → cut' ≡ cut → Checked s n j v after cut'
+      one_more v j cut' o next same =
+          let a : answer (checks_at s n i) (key s.kind x) ≡ Ok v = sym (checks_are (key s.kind x)) ∙ o in
+          let P : ℕ → Type 0 = λ m. Checked s n m v after cut' in
+          let b = below in
+          subst P (sym next) record {
+            long = h.long;
+            kept = each_on (checks_at s n) i (key s.kind x) v h.kept a;
+            last = rw add-one (told_of_ok (checks_at s n i) (key s.kind x) v a ∙ ap (key s.kind) cut_is);
+            within = omega arith;
+            left = left_next;
+            whole = same ∙ h.whole;
+          }
+
+-- a part is the body of its kind, and where its records start
+pub part_is : (f : List ℕ) (n : Counts) (k j : BodyKind) (first : ℕ) (b : List ℕ) → j ≡ k → first ≡ start n j → b ≡ part f (start n j) (size j * count n j) → ◌≡◌ {A = Shown} (record { kind = k; first = first; bytes = b }) (body_of f n k)
+part_is f n k j first b e h q = rw (h, q, e)
+
+pub record_starts : (k j : BodyKind) (first cut i m : ℕ) → cut ≡ size j → j ≡ k → m ≡ i → first + cut * m ≡ first + size k * i
+record_starts k j first cut i m h e q = rw (h, e, q)

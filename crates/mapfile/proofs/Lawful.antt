@@ -5,7 +5,7 @@ use Rattle.mapfile.specs.declared.body.BodyKind.{BodyKind}
 use Rattle.mapfile.specs.declared.body.BodyKind.TheVariants.{Places, Links, Signals}
 use Rattle.mapfile.specs.declared.counts.Counts.{Counts}
 use Rattle.mapfile.specs.declared.fault.Fault.{Fault}
-use Rattle.mapfile.specs.Bodies.{body_of, body_checks, nth_place, nth_link, nth_signal}
+use Rattle.mapfile.specs.Bodies.{body_of, body_checks, nth}
 use Rattle.mapfile.specs.Checks.{Check, answer, AllKept, First}
 use Rattle.mapfile.specs.Contents.{line_checks, contents_checks}
 use Rattle.mapfile.specs.File.{checks, rest_checks}
@@ -68,13 +68,13 @@ module _ (f : List ℕ) where
   -- ---- the records
   module _ (n : Counts) where
     places_of : AllKept (body_checks (body_of f n Places) n) → EachPlace f n
-    places_of h i lt = is_le (each_at (nth_place (body_of f n Places).bytes 26) n.places i lt h).0
+    places_of h i lt = is_le (each_at (nth Places (body_of f n Places).bytes 26 n) n.places i lt h).0
 
     of_places : EachPlace f n → AllKept (body_checks (body_of f n Places) n)
-    of_places h = each_all (nth_place (body_of f n Places).bytes 26) n.places (λ i lt. (le_is (h i lt), tt))
+    of_places h = each_all (nth Places (body_of f n Places).bytes 26 n) n.places (λ i lt. (le_is (h i lt), tt))
 
     abbrev links_of : ℕ → List Check
-    links_of = nth_link (body_of f n Links).bytes (start n Links) n
+    links_of = nth Links (body_of f n Links).bytes (start n Links) n
 
     link_rules : AllKept (body_checks (body_of f n Links) n) → EachLink f n
     link_rules h i lt =
@@ -90,7 +90,7 @@ module _ (f : List ℕ) where
     of_links h k = each_all links_of n.links (λ i lt. (both_is (le_is (h i lt).0) (le_is (h i lt).1), (le_is (h i lt).2, (le_is (h i lt).3, (eq_is (h i lt).4, (signal_is (k i lt).0, (le_is (k i lt).1, tt)))))))
 
     abbrev signals_of : ℕ → List Check
-    signals_of = nth_signal (body_of f n Signals).bytes (start n Signals)
+    signals_of = nth Signals (body_of f n Signals).bytes (start n Signals) n
 
     signal_rules : AllKept (body_checks (body_of f n Signals) n) → EachSignal f n
     signal_rules h i lt =
@@ -153,7 +153,7 @@ module _ (f : List ℕ) (n : Counts) (h : answer (checks f) (counts f) ≡ Ok n)
   lawful_of_ok = lawful_of_kept f (kept_of_ok (checks f) (counts f) n h)
 
   pub sized_of_ok : Sized f n
-  sized_of_ok = let l = lawful_of_ok in subst (Sized f) (sym counts_of_ok) (l.ends, l.places.few, l.links.few, l.signals.few)
+  sized_of_ok = let l = lawful_of_ok in subst (Sized f) (sym counts_of_ok) (l.ends, (l.places.few, l.links.few, l.signals.few))
 
   pub rules_of_ok : EachPlace f n × EachLink f n × EachSign f n × EachSignal f n × EachSpare f n
   rules_of_ok =

@@ -26,41 +26,39 @@ shown (bodies.Signals p) = record { kind = Signals; first = p.first; bytes = p.b
 abbrev pub body_of : List ℕ → Counts → BodyKind → Shown
 body_of f n k = record { kind = k; first = start n k; bytes = part f (start n k) (size k * count n k) }
 
--- the i-th record of a body
-abbrev pub place_at : List ℕ → ℕ → List ℕ
-place_at b i = part b (4 * i) 4
+-- the i-th record of a body of a kind
+abbrev pub record_at : BodyKind → List ℕ → ℕ → List ℕ
+record_at k b i = part b (size k * i) (size k)
 
-abbrev pub link_at : List ℕ → ℕ → List ℕ
-link_at b i = part b (12 * i) 12
+-- what the checks of a record need of the one before it: a place's site, the place that a link leaves
+abbrev pub key : BodyKind → List ℕ → ℕ
+key Places r = long r 0
+key Links r = word r 0
+key Signals r = 0
 
-abbrev pub signal_at : List ℕ → ℕ → List ℕ
-signal_at b i = part b (8 * i) 8
+-- the key of the record before the i-th, 0 before the first
+abbrev pub key_before : BodyKind → List ℕ → ℕ → ℕ
+key_before k b zero = 0
+key_before k b (suc i) = key k (record_at k b i)
 
--- the site before the i-th place, 0 before the first
+-- the site before the i-th place
 abbrev pub site_before : List ℕ → ℕ → ℕ
-site_before b zero = 0
-site_before b (suc i) = long (place_at b i) 0
+site_before b i = key_before Places b i
 
--- the start of the link before the i-th, 0 before the first
+-- the start of the link before the i-th
 abbrev pub from_before : List ℕ → ℕ → ℕ
-from_before b zero = 0
-from_before b (suc i) = word (link_at b i) 0
+from_before b i = key_before Links b i
+
+-- the checks of one record, from its bytes, its first byte in the file and the key before it
+abbrev pub record_checks : BodyKind → List ℕ → ℕ → Counts → ℕ → List Check
+record_checks Places r at n before = place_checks r at before
+record_checks Links r at n before = link_checks r at n before
+record_checks Signals r at n before = signal_checks r at
 
 -- the checks of the i-th record of a body that starts at the byte `first`
-abbrev pub nth_place : List ℕ → ℕ → ℕ → List Check
-nth_place b first i = place_checks (place_at b i) (first + 4 * i) (site_before b i)
-
-abbrev pub nth_link : List ℕ → ℕ → Counts → ℕ → List Check
-nth_link b first n i = link_checks (link_at b i) (first + 12 * i) n (from_before b i)
-
-abbrev pub nth_signal : List ℕ → ℕ → ℕ → List Check
-nth_signal b first i = signal_checks (signal_at b i) (first + 8 * i)
+abbrev pub nth : BodyKind → List ℕ → ℕ → Counts → ℕ → List Check
+nth k b first n i = record_checks k (record_at k b i) (first + size k * i) n (key_before k b i)
 
 -- the checks of a whole body
-abbrev pub checks_by : BodyKind → List ℕ → ℕ → Counts → List Check
-checks_by Places b first n = each n.places (nth_place b first)
-checks_by Links b first n = each n.links (nth_link b first n)
-checks_by Signals b first n = each n.signals (nth_signal b first)
-
 abbrev pub body_checks : Shown → Counts → List Check
-body_checks s n = checks_by s.kind s.bytes s.first n
+body_checks s n = each (count n s.kind) (nth s.kind s.bytes s.first n)

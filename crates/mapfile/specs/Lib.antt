@@ -1,5 +1,6 @@
 pub mod Bytes
 pub mod Numbers
+pub mod Words
 pub mod Codes
 pub mod Layout
 pub mod Checks

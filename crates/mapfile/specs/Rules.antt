@@ -3,24 +3,28 @@ use Rattle.std.specs.Prelude.{◌≡◌, ℕ, ◌+◌, ◌<◌, ◌≤◌, List,
 use Rattle.mapfile.specs.declared.body.BodyKind.{BodyKind}
 use Rattle.mapfile.specs.declared.body.BodyKind.TheVariants.{Places, Links, Signals}
 use Rattle.mapfile.specs.declared.counts.Counts.{Counts}
-use Rattle.mapfile.specs.Bodies.{body_of, place_at, link_at, signal_at, site_before, from_before}
+use Rattle.mapfile.specs.Bodies.{body_of, record_at, site_before, from_before}
 use Rattle.mapfile.specs.Bytes.{byte, word, long}
 use Rattle.mapfile.specs.Codes.{code, least, most, line}
 use Rattle.mapfile.specs.Layout.{start, end, counts}
 
 -- the bytes of the i-th record of each kind
 abbrev pub place_bytes : List ℕ → Counts → ℕ → List ℕ
-place_bytes f n i = place_at (body_of f n Places).bytes i
+place_bytes f n i = record_at Places (body_of f n Places).bytes i
 
 abbrev pub link_bytes : List ℕ → Counts → ℕ → List ℕ
-link_bytes f n i = link_at (body_of f n Links).bytes i
+link_bytes f n i = record_at Links (body_of f n Links).bytes i
 
 abbrev pub signal_bytes : List ℕ → Counts → ℕ → List ℕ
-signal_bytes f n i = signal_at (body_of f n Signals).bytes i
+signal_bytes f n i = record_at Signals (body_of f n Signals).bytes i
+
+-- no more records than the format's limits
+abbrev pub Limited : Counts → Type 0
+Limited n = (n.places ≤ 2048) × (n.links ≤ 4096) × (n.signals ≤ 256)
 
 -- the records lie in the file, and are no more than the format's limits
 abbrev pub Sized : List ℕ → Counts → Type 0
-Sized f n = (length f ≡ end n) × (n.places ≤ 2048) × (n.links ≤ 4096) × (n.signals ≤ 256)
+Sized f n = (length f ≡ end n) × Limited n
 
 -- a site is above the site before it, the first above 0
 abbrev pub PlaceRule : List ℕ → Counts → ℕ → Type 0

@@ -1,34 +1,37 @@
-ghost use Rattle.std.specs.Prelude.{◌≡◌};
+ghost use Rattle.std.specs.Prelude.{◌≡◌, false};
+ghost use Rattle.std.specs.Range.{range_inclusive_start, range_inclusive_end, range_inclusive_exhausted};
 ghost use Rattle.mapfile.specs.Codes.{code, least, most, line, size};
 
+use std::ops::RangeInclusive;
+
 // The three kinds of records, in the order of their bodies in the file.
-#[derive(Clone, Copy)]
+#[derive(Clone, Copy, Debug, PartialEq, Eq)]
 pub enum BodyKind {
-    Places,
-    Links,
-    Signals,
+    Places = 1,
+    Links = 2,
+    Signals = 3,
+}
+
+// The number of a kind in the contents.
+impl From<BodyKind> for u8 {
+    ghost from_gives = { λ kind n. n ≡ code kind };
+
+    fn from(kind: BodyKind) -> u8 {
+        kind as u8
+    }
 }
 
 impl BodyKind {
-    // The number of the kind in the contents.
-    pub(crate) fn code(self) -> u8
-        ensures { result ≡ code self }
+    // The counts of records that there may be.
+    pub(crate) fn limits(self) -> RangeInclusive<u16>
+        ensures least { range_inclusive_start result ≡ least self }
+        ensures most { range_inclusive_end result ≡ most self }
+        ensures whole { range_inclusive_exhausted result ≡ false }
     {
         match self {
-            BodyKind::Places => 1,
-            BodyKind::Links => 2,
-            BodyKind::Signals => 3,
-        }
-    }
-
-    // The least and the greatest count of records.
-    pub(crate) fn limits(self) -> (u16, u16)
-        ensures { result ≡ (least self, most self) }
-    {
-        match self {
-            BodyKind::Places => (1, 2048),
-            BodyKind::Links => (0, 4096),
-            BodyKind::Signals => (0, 256),
+            BodyKind::Places => 1..=2048,
+            BodyKind::Links => 0..=4096,
+            BodyKind::Signals => 0..=256,
         }
     }
 

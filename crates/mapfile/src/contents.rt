@@ -4,23 +4,12 @@ ghost use Rattle.mapfile.specs.Checks.{answer};
 ghost use Rattle.mapfile.specs.Contents.{line_checks, contents_checks, length_checks};
 ghost use Rattle.mapfile.specs.Codes.{line, most};
 ghost use Rattle.mapfile.specs.Layout.{counts as file_counts, end};
-ghost use Rattle.mapfile.specs.Numbers.{fault};
+ghost use Rattle.mapfile.specs.Rules.{Limited};
 
 use super::body::BodyKind;
 use super::bytes::{long_at, word_at};
 use super::counts::Counts;
-use super::fault::{Breach, Fault, Layer};
-
-// The contents break a rule at byte `at`.
-fn broken(breach: Breach, at: usize) -> Fault
-    ensures { result ≡ record { layer = Layer.Contents; breach = breach; byte = at } }
-{
-    Fault {
-        layer: Layer::Contents,
-        breach,
-        byte: at,
-    }
-}
+use super::fault::{Breach, Fault};
 
 // Checks the line of a kind, whose body is due at byte `due`, and answers its count of records.
 fn check_line(file: &[u8], kind: BodyKind, due: usize) -> Result<usize, Fault>
@@ -29,19 +18,18 @@ fn check_line(file: &[u8], kind: BodyKind, due: usize) -> Result<usize, Fault>
     ensures bound { IfOk result (λ n. n ≤ most kind) }
 {
     let at = kind.line();
-    if file[at] != kind.code() {
-        return Err(broken(Breach::Contents, at));
+    if file[at] != u8::from(kind) {
+        return Err(Breach::Contents.at(at));
     }
     if file[at + 1] != 0 {
-        return Err(broken(Breach::Contents, at + 1));
+        return Err(Breach::Contents.at(at + 1));
     }
     let count = word_at(file, at + 2);
-    let (least, most) = kind.limits();
-    if count < least || count > most {
-        return Err(broken(Breach::Count, at + 2));
+    if !kind.limits().contains(&count) {
+        return Err(Breach::Count.at(at + 2));
     }
     if long_at(file, at + 4) as usize != due {
-        return Err(broken(Breach::Contents, at + 4));
+        return Err(Breach::Contents.at(at + 4));
     }
     Ok(count as usize)
 }
@@ -49,16 +37,16 @@ fn check_line(file: &[u8], kind: BodyKind, due: usize) -> Result<usize, Fault>
 // Checks the contents of a file and answers the counts of its records.
 pub fn check_contents(file: &[u8]) -> Result<Counts, Fault>
     ensures value { result ≡ answer (contents_checks file.now) (file_counts file.now) }
-    ensures bound { IfOk result (λ n. (n.places ≤ 2048) × (n.links ≤ 4096) × (n.signals ≤ 256)) }
+    ensures bound { IfOk result Limited }
 {
     if file.len() < 26 {
-        return Err(broken(Breach::Short, file.len()));
+        return Err(Breach::Short.at(file.len()));
     }
     if file[0] != 1 {
-        return Err(broken(Breach::Edition, 0));
+        return Err(Breach::Edition.at(0));
     }
     if file[1] != 3 {
-        return Err(broken(Breach::Contents, 1));
+        return Err(Breach::Contents.at(1));
     }
     let places = check_line(file, BodyKind::Places, 26)?;
     let links = check_line(file, BodyKind::Links, 26 + 4 * places)?;
@@ -68,22 +56,4 @@ pub fn check_contents(file: &[u8]) -> Result<Counts, Fault>
         links,
         signals,
     })
-}
-
-// Checks that the file ends where its last body ends.
-pub fn check_length(file: &[u8], counts: Counts) -> Result<(), Fault>
-    requires { end counts ≤ 65536 }
-    ensures value { result ≡ answer (length_checks file.now counts) tt }
-    ensures due { OnOk result (length file.now ≡ end counts) }
-{
-    let due = 26 + 4 * counts.places + 12 * counts.links + 8 * counts.signals;
-    if file.len() != due {
-        let byte = file.len().min(due);
-        return Err(Fault {
-            layer: Layer::Body,
-            breach: Breach::Length,
-            byte,
-        });
-    }
-    Ok(())
 }

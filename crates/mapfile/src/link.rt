@@ -1,5 +1,8 @@
 ghost use Rattle.std.specs.Prelude.{◌≤◌};
 
+// The word that stands for no signal.
+pub(crate) const NO_SIGNAL: u16 = 65535;
+
 // One drivable step from a place to a place: its running time in tenths of a second, its turn class, the signal at its
 // end if there is one, and its grade per mille.
 #[derive(Clone, Copy)]

@@ -1,15 +1,14 @@
-ghost use Rattle.std.specs.Prelude.{◌≡◌, ◌+◌, ◌*◌, ◌<◌, ◌≤◌, length, Some, None};
-ghost use Rattle.mapfile.specs.Bodies.{shown, body_of};
-ghost use Rattle.mapfile.specs.Bytes.{part};
+ghost use Rattle.std.specs.Prelude.{◌≡◌, ◌+◌, ◌*◌, ◌<◌, ◌≤◌, length, Some, None, IsSome, IfSome};
+ghost use Rattle.mapfile.specs.Bodies.{shown, body_of, record_at};
 ghost use Rattle.mapfile.specs.Codes.{size};
 ghost use Rattle.mapfile.specs.Layout.{count};
 ghost use Rattle.mapfile.specs.View.{bytes_of, site_of, signal_named, link_of, signal_of};
 
-use super::super::bodies::{hand_out, part_of};
+use super::super::bodies::Bodies;
 use super::super::body::{Body, BodyKind};
 use super::super::bytes::{long_at, word_at};
 use super::super::counts::Counts;
-use super::super::link::Link;
+use super::super::link::{Link, NO_SIGNAL};
 use super::super::signal::Signal;
 use super::Map;
 
@@ -21,7 +20,7 @@ fn named_signal(word: u16) -> Option<u16>
     ensures { result ≡ signal_named word }
 {
     match word {
-        65535 => None,
+        NO_SIGNAL => None,
         known => Some(known),
     }
 }
@@ -48,22 +47,37 @@ impl<'a> Map<'a> {
         self.counts
     }
 
+    fn bodies(&self) -> Bodies<'a>
+        ensures file { result.file.now ≡ bytes_of self.now }
+        ensures counts { result.counts ≡ self.now.counts }
+    {
+        Bodies {
+            file: self.file,
+            counts: self.counts,
+        }
+    }
+
     // The part of the file that holds the records of a kind.
     pub fn part(&self, kind: BodyKind) -> Body<'a>
         ensures { shown result ≡ body_of (bytes_of self.now) self.now.counts kind }
     {
-        hand_out(self.file, self.counts, kind)
+        self.bodies().body(kind)
     }
 
-    // The bytes of a record, by a number that is known.
-    fn record(&self, kind: BodyKind, number: usize) -> &'a [u8]
-        requires { number < count self.now.counts kind }
-        ensures bytes { result.now ≡ part (body_of (bytes_of self.now) self.now.counts kind).bytes (size kind * number) (size kind) }
-        ensures long { length result.now ≡ size kind }
+    // The bytes of a record, if there is one of that number.
+    fn record(&self, kind: BodyKind, number: u32) -> Option<&'a [u8]>
+        ensures known { number < count self.now.counts kind → IsSome result }
+        ensures bytes { IfSome result (λ r. r.now ≡ record_at kind (body_of (bytes_of self.now) self.now.counts kind).bytes number) }
+        ensures long { IfSome result (λ r. length r.now ≡ size kind) }
+        ensures unknown { count self.now.counts kind ≤ number → result ≡ None }
     {
-        let body = part_of(self.file, self.counts, kind);
+        let at = number as usize;
+        if at >= self.counts.of(kind) {
+            return None;
+        }
         let size = kind.size();
-        &body.bytes[size * number..size * number + size]
+        let body = self.bodies().part(kind);
+        Some(&body.bytes[size * at..size * at + size])
     }
 
     // The site of a place.
@@ -71,11 +85,8 @@ impl<'a> Map<'a> {
         ensures known { number < self.now.counts.places → result ≡ Some (site_of self.now number) }
         ensures unknown { self.now.counts.places ≤ number → result ≡ None }
     {
-        let place = number as usize;
-        if place >= self.counts.places {
-            return None;
-        }
-        Some(long_at(self.record(BodyKind::Places, place), 0))
+        let bytes = self.record(BodyKind::Places, number)?;
+        Some(long_at(bytes, 0))
     }
 
     // A link.
@@ -83,11 +94,7 @@ impl<'a> Map<'a> {
         ensures known { (h : number < self.now.counts.links) → result ≡ Some (link_of self.now number h) }
         ensures unknown { self.now.counts.links ≤ number → result ≡ None }
     {
-        let at = number as usize;
-        if at >= self.counts.links {
-            return None;
-        }
-        let bytes = self.record(BodyKind::Links, at);
+        let bytes = self.record(BodyKind::Links, number)?;
         Some(Link {
             from: word_at(bytes, 0),
             to: word_at(bytes, 2),
@@ -103,11 +110,7 @@ impl<'a> Map<'a> {
         ensures known { (h : number < self.now.counts.signals) → result ≡ Some (signal_of self.now number h) }
         ensures unknown { self.now.counts.signals ≤ number → result ≡ None }
     {
-        let at = number as usize;
-        if at >= self.counts.signals {
-            return None;
-        }
-        let bytes = self.record(BodyKind::Signals, at);
+        let bytes = self.record(BodyKind::Signals, number)?;
         Some(Signal {
             cycle: word_at(bytes, 0),
             start: word_at(bytes, 2),
