@@ -22,7 +22,7 @@ is_le {a} {b} h = grind (arith, nat_tests)
 
 halves : (a b : Bool) → (a && b) ≡ true → (a ≡ true) × (b ≡ true)
 halves true b h = (refl, h)
-halves false b h = let z : ◌≡◌ {A = ℕ} 0 1 = cc in absurd (omega arith)
+halves false b h = cc
 
 is_both : {a b : Bool} → (a && b) ≡ true → (a ≡ true) × (b ≡ true)
 is_both {a} {b} h = halves a b h
@@ -163,7 +163,7 @@ module _ (f : List ℕ) (n : Counts) (h : answer (checks f) (counts f) ≡ Ok n)
 
 -- ---- a fault is the first
 pub first_of_err : {A : Type 0} (cs : List Check) (a : A) (e : Fault) → answer cs a ≡ Err e → First cs e
-first_of_err [] a e h = let z : ◌≡◌ {A = ℕ} 0 1 = cc in absurd (omega arith)
+first_of_err [] a e h = cc
 first_of_err {A} (c ∷ cs) a e h = go c.kept refl (first_of_err cs a e)
   where
     go : (k : Bool) → c.kept ≡ k → (answer cs a ≡ Err e → First cs e) → First (c ∷ cs) e

@@ -1,5 +1,5 @@
 -- Laws of lists of checks.
-use Rattle.std.proofs.Common.{◌≡◌, ℕ, zero, suc, ◌+◌, ◌<◌, Bool, true, false, ◌⊎◌, List, [], ◌∷◌, ◌++◌, Ok, Err, Result, sym, refl, ◌∙◌, ⊎_elim, add-one, arith}
+use Rattle.std.proofs.Common.{◌≡◌, ℕ, zero, suc, ◌+◌, ◌<◌, Bool, true, false, ◌⊎◌, List, [], ◌∷◌, ◌++◌, Ok, Err, sym, refl, ◌∙◌, ⊎_elim, add-one, arith}
 use Rattle.mapfile.specs.declared.fault.Fault.{Fault}
 use Rattle.mapfile.specs.Checks.{Check, answer, each, AllKept}
 
@@ -10,7 +10,7 @@ kept_of_ok {A} (c ∷ cs) a b e = go c.kept refl (kept_of_ok cs a b)
   where
     go : (k : Bool) → c.kept ≡ k → (answer cs a ≡ Ok b → AllKept cs) → AllKept (c ∷ cs)
     go true h rest = (h, rest (rw h at e))
-    go false h rest = let w : Err c.told ≡ Ok b = rw h at e in let z : ◌≡◌ {A = ℕ} 0 1 = cc in absurd (omega arith)
+    go false h rest = cc (rw h at e)
 
 pub ok_of_kept : {A : Type 0} (cs : List Check) (a : A) → AllKept cs → answer cs a ≡ Ok a
 ok_of_kept [] a h = refl
@@ -23,21 +23,21 @@ answer_past (c ∷ xs) ys a h = let e : c.kept ≡ true = h.0 in rw e (answer_pa
 
 -- a fault in front stays the answer
 pub answer_stops : {A B : Type 0} (xs ys : List Check) (a : A) (b : B) (e : Fault) → answer xs a ≡ Err e → answer (xs ++ ys) b ≡ Err e
-answer_stops [] ys a b e h = let z : ◌≡◌ {A = ℕ} 0 1 = cc in absurd (omega arith)
+answer_stops [] ys a b e h = cc
 answer_stops {A} {B} (c ∷ xs) ys a b e h = go c.kept refl (answer_stops xs ys a b e)
   where
     go : (k : Bool) → c.kept ≡ k → (answer xs a ≡ Err e → answer (xs ++ ys) b ≡ Err e) → answer (c ∷ xs ++ ys) b ≡ Err e
     go true q rest = rw q (rest (rw q at h))
-    go false q rest = rw q (let w : ◌≡◌ {A = Result A Fault} (Err c.told) (Err e) = rw q at h in cc)
+    go false q rest = rw q (cc (rw q at h))
 
 -- a fault does not depend on the value that is told without one
 pub err_any : {A B : Type 0} (xs : List Check) (a : A) (b : B) (e : Fault) → answer xs a ≡ Err e → answer xs b ≡ Err e
-err_any [] a b e h = let z : ◌≡◌ {A = ℕ} 0 1 = cc in absurd (omega arith)
+err_any [] a b e h = cc
 err_any {A} {B} (c ∷ xs) a b e h = go c.kept refl (err_any xs a b e)
   where
     go : (k : Bool) → c.kept ≡ k → (answer xs a ≡ Err e → answer xs b ≡ Err e) → answer (c ∷ xs) b ≡ Err e
     go true q rest = rw q (rest (rw q at h))
-    go false q rest = rw q (let w : ◌≡◌ {A = Result A Fault} (Err c.told) (Err e) = rw q at h in cc)
+    go false q rest = rw q (cc (rw q at h))
 
 -- what is kept of two lists is kept of both together, and the other way round
 pub kept_both : (xs ys : List Check) → AllKept xs → AllKept ys → AllKept (xs ++ ys)

@@ -1,5 +1,5 @@
 -- A reading is a list of checks, and its answer the first of them that fails.
-use Rattle.std.specs.Prelude.{◌≡◌, ℕ, zero, suc, Bool, true, false, cond, List, [], ◌∷◌, ◌++◌, Ok, Err, Result}
+use Rattle.std.specs.Prelude.{◌≡◌, ℕ, zero, suc, Bool, true, false, if◌then◌else◌, List, [], ◌∷◌, ◌++◌, Ok, Err, Result}
 use Rattle.mapfile.specs.declared.fault.Breach.{Breach}
 use Rattle.mapfile.specs.declared.fault.Fault.{Fault}
 use Rattle.mapfile.specs.Numbers.{fault}
@@ -15,7 +15,7 @@ check b at k = record { kept = k; told = fault b at }
 -- the first fault of a list of checks, or the value that is told where all are kept
 abbrev pub answer : {A : Type 0} → List Check → A → Result A Fault
 answer [] a = Ok a
-answer (c ∷ cs) a = cond c.kept (answer cs a) (Err c.told)
+answer (c ∷ cs) a = if c.kept then answer cs a else Err c.told
 
 -- the checks of the first `n` of many things, one after the other
 abbrev pub each : ℕ → (ℕ → List Check) → List Check

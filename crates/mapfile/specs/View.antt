@@ -1,5 +1,5 @@
 -- What a map holds.
-use Rattle.std.specs.Prelude.{◌≡◌, ℕ, ◌<◌, cond, List, Some, None, Option, ◌==◌}
+use Rattle.std.specs.Prelude.{◌≡◌, ℕ, ◌<◌, if◌then◌else◌, List, Some, None, Option, ◌==◌}
 use Rattle.mapfile.specs.declared.link.Link.{Link}
 use Rattle.mapfile.specs.declared.map.Map.{Map}
 use Rattle.mapfile.specs.declared.signal.Signal.{Signal}
@@ -21,7 +21,7 @@ site_of m i = long (place_bytes (bytes_of m) m.counts i) 0
 
 -- 65535 stands for no signal
 abbrev pub signal_named : ℕ → Option ℕ
-signal_named w = cond (w == 65535) None (Some w)
+signal_named w = if w == 65535 then None else Some w
 
 abbrev pub link_of : (m : Map) (i : ℕ) → i < m.counts.links → Link
 link_of m i h = record {

@@ -1,7 +1,8 @@
 ghost use Rattle.std.specs.Prelude.{◌≡◌, Some};
 ghost use Rattle.mapfile.specs.Numbers.{number, layer_of, fault};
-ghost use Rattle.mapfile.specs.Words.{layer_words};
+ghost use Rattle.mapfile.specs.Words.{layer_words, fault_words};
 
+use std::error::Error;
 use std::fmt;
 
 // Where in the file a rule is broken: in the contents, in the bodies' sizes, or in a record.
@@ -73,3 +74,13 @@ pub struct Fault {
     pub breach: Breach,
     pub byte: usize,
 }
+
+impl fmt::Display for Fault {
+    ghost output = { λ fault. Some (fault_words fault) };
+
+    fn fmt<W: fmt::Write>(&self, f: &mut fmt::Formatter<W>) -> fmt::Result {
+        write!(f, "{} {}", self.layer, self.byte)
+    }
+}
+
+impl Error for Fault {}

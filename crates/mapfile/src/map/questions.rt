@@ -4,13 +4,13 @@ ghost use Rattle.mapfile.specs.Codes.{size};
 ghost use Rattle.mapfile.specs.Layout.{count};
 ghost use Rattle.mapfile.specs.View.{bytes_of, site_of, signal_named, link_of, signal_of};
 
-use super::super::bodies::Bodies;
-use super::super::body::{Body, BodyKind};
-use super::super::bytes::{long_at, word_at};
-use super::super::counts::Counts;
-use super::super::link::{Link, NO_SIGNAL};
-use super::super::signal::Signal;
 use super::Map;
+use crate::bodies::Bodies;
+use crate::body::{Body, BodyKind};
+use crate::bytes::{long_at, word_at};
+use crate::counts::Counts;
+use crate::link::{Link, NO_SIGNAL};
+use crate::signal::Signal;
 
 // The contents of a file without records.
 static BARE: [u8; 26] = [0; 26];

@@ -4,9 +4,9 @@ ghost use Rattle.mapfile.specs.File.{checks};
 ghost use Rattle.mapfile.specs.Rules.{Lawful};
 ghost use Rattle.mapfile.specs.View.{Holds};
 
-use super::super::fault::Fault;
-use super::super::reader::check_file;
 use super::Map;
+use crate::fault::Fault;
+use crate::reader::check_file;
 
 impl<'a> Map<'a> {
     // Reads a file in place of what the map held, or refuses it and leaves the map.
