@@ -43,12 +43,6 @@ module _ (n : Counts) (b : Book) where
         there : (q ≡ p → ⊥) → (q < n.places) × (t ≤ 36000)
         there ne = s.at_places q t (sym (get_or-set_other b.stations p q o None ne) ∙ h)
 
-    same_some : {t u : ℕ} → Some t ≡ Some u → t ≡ u
-    same_some {t} {u} e = cc
-
-    none_some : {u : ℕ} → None ≡ Some u → ⊥
-    none_some {u} e = let z : ◌≡◌ {A = ℕ} 0 1 = cc in absurd (omega arith)
-
     placed_few : (p t : ℕ) → refusal n b (Place p t) ≡ None → p < length b.stations → stationed (set b.stations p (Some t)) ≤ 64
     placed_few p t h lt = go (has_station b p) refl
       where
@@ -62,14 +56,14 @@ module _ (n : Counts) (b : Book) where
         let long : p < length b.stations = omega (arith, s.tables, lt) in
         record {
           tables = (simp length-set s.tables.0, s.tables.1);
-          at_places = others p (Some t) lt (λ u e. let i = same_some e in omega (arith, place_short p t h, i));
+          at_places = others p (Some t) lt (λ u e. let i : t ≡ u = cc in omega (arith, place_short p t h, i));
           few = placed_few p t h long;
           known_links = s.known_links;
           unsolved = refl;
         }
 
     stood : (p : ℕ) (o : Option ℕ) → get_or b.stations p None ≡ o → is_some o ≡ true → p < n.places
-    stood p None e h = let z : ◌≡◌ {A = ℕ} 0 1 = cc in absurd (omega arith)
+    stood p None e h = cc
     stood p (Some t) e h = (s.at_places p t e).0
 
     lift_keeps : (p : ℕ) → refusal n b (Lift p) ≡ None → Sound n (written b (Lift p))
@@ -79,7 +73,7 @@ module _ (n : Counts) (b : Book) where
         let long : p < length b.stations = omega (arith, s.tables, lt) in
         record {
           tables = (simp length-set s.tables.0, s.tables.1);
-          at_places = others p None lt (λ u e. absurd (none_some e));
+          at_places = others p None lt (λ u e. cc);
           few = omega (arith, lifted b.stations p (stationed b.stations) long refl there, s.few);
           known_links = s.known_links;
           unsolved = refl;
@@ -95,7 +89,7 @@ module _ (n : Counts) (b : Book) where
         past ge e =
             let w : get_or (set b.closed k v) k false ≡ true = rw e at h in
             let d : get_or (set b.closed k v) k false ≡ false = get_or_past (set b.closed k v) k false (simp length-set ge) in
-            let z : ◌≡◌ {A = ℕ} 0 1 = cc in absurd (omega arith)
+            cc
 
         here : j ≡ k → j < n.links
         here e = ⊎_elim (λ lt. within lt e) (λ ge. past ge e) (cases_lt k (length b.closed))
@@ -117,7 +111,7 @@ module _ (n : Counts) (b : Book) where
       tables = (s.tables.0, simp length-set s.tables.1);
       at_places = s.at_places;
       few = s.few;
-      known_links = links_after k false (λ e. let z : ◌≡◌ {A = ℕ} 0 1 = cc in absurd (omega arith));
+      known_links = links_after k false (λ e. cc);
       unsolved = refl;
     }
 
@@ -147,9 +141,9 @@ none_stand (suc n) = let r = none_stand n in omega (arith, r)
 blank_sound : (n : Counts) (places links : ℕ) → places ≡ 2048 → links ≡ 4096 → Sound n (record { stations = replicate places None; closed = replicate links false; solved = false })
 blank_sound n places links e f = record {
   tables = (length-replicate places None ∙ e, length-replicate links false ∙ f);
-  at_places = λ p t h. let w = all_same {A = Option ℕ} places p None in let z : ◌≡◌ {A = ℕ} 0 1 = cc in absurd (omega arith);
+  at_places = λ p t h. let w = all_same {A = Option ℕ} places p None in cc;
   few = omega (arith, none_stand places);
-  known_links = λ k h. let w = all_same links k false in let z : ◌≡◌ {A = ℕ} 0 1 = cc in absurd (omega arith);
+  known_links = λ k h. let w = all_same links k false in cc;
   unsolved = refl;
 }
 

@@ -1,5 +1,5 @@
 -- The call book: what a list of calls leaves, drawn from the map's counts and the calls' arguments alone.
-use Rattle.std.specs.Prelude.{ℕ, Bool, true, false, cond, not, ◌&&◌, List, replicate, is_some, Some, None, Ok, Err, fold, Option, Result, nat_le, nat_lt, slice_index_or, slice_set}
+use Rattle.std.specs.Prelude.{ℕ, Bool, true, false, if◌then◌else◌, not, ◌&&◌, List, replicate, is_some, Some, None, Ok, Err, fold, Option, Result, nat_le, nat_lt, slice_index_or, slice_set}
 use Rattle.mapfile.specs.declared.counts.Counts.{Counts}
 use Rattle.planner.specs.declared.change.Change.{Change}
 use Rattle.planner.specs.declared.change.Change.TheVariants.{Place, Lift, Close, Reopen}
@@ -26,12 +26,17 @@ is_closed b k = slice_index_or b.closed k false
 -- the first of these that applies, tried downwards
 abbrev pub refusal : Counts → Book → Change → Option Refusal
 refusal n b (Place p t) =
-    cond (nat_le n.places p) (Some UnknownNumber)
-    (cond (nat_lt 36000 t) (Some TurnoutTooLong)
-    (cond (not (has_station b p) && nat_le 64 (stationed b.stations)) (Some StationsFull) None))
-refusal n b (Lift p) = cond (nat_le n.places p) (Some UnknownNumber) (cond (has_station b p) None (Some AlreadySo))
-refusal n b (Close k) = cond (nat_le n.links k) (Some UnknownNumber) (cond (is_closed b k) (Some AlreadySo) None)
-refusal n b (Reopen k) = cond (nat_le n.links k) (Some UnknownNumber) (cond (is_closed b k) None (Some AlreadySo))
+    if nat_le n.places p then Some UnknownNumber else
+    if nat_lt 36000 t then Some TurnoutTooLong else
+    if not (has_station b p) && nat_le 64 (stationed b.stations) then Some StationsFull else None
+refusal n b (Lift p) = if nat_le n.places p then Some UnknownNumber else if has_station b p then None else Some AlreadySo
+refusal n b (Close k) = if nat_le n.links k then Some UnknownNumber else if is_closed b k then Some AlreadySo else None
+refusal n b (Reopen k) = if nat_le n.links k then Some UnknownNumber else if is_closed b k then None else Some AlreadySo
+
+-- the call that closes a link, or reopens it
+abbrev pub turned : Bool → ℕ → Change
+turned true k = Close k
+turned false k = Reopen k
 
 -- what an accepted change writes
 abbrev pub written : Book → Change → Book

@@ -1,4 +1,5 @@
 pub mod Numbers
+pub mod Words
 pub mod Stations
 pub mod Book
 pub mod Sound

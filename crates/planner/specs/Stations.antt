@@ -1,6 +1,6 @@
 -- How many places have a station.
-use Rattle.std.specs.Prelude.{ℕ, ◌+◌, cond, List, [], ◌∷◌, is_some, Option}
+use Rattle.std.specs.Prelude.{ℕ, ◌+◌, if◌then◌else◌, List, [], ◌∷◌, is_some, Option}
 
 abbrev pub stationed : List (Option ℕ) → ℕ
 stationed [] = 0
-stationed (s ∷ ss) = cond (is_some s) 1 0 + stationed ss
+stationed (s ∷ ss) = (if is_some s then 1 else 0) + stationed ss

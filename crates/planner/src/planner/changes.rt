@@ -1,15 +1,27 @@
-ghost use Rattle.std.specs.Prelude.{◌≡◌, ◌<◌};
-ghost use Rattle.planner.specs.Book.{blank, has_station, after, reply};
+ghost use Rattle.std.specs.Prelude.{◌≡◌, ◌<◌, ◌≤◌, IfOk, IfErr};
+ghost use Rattle.planner.specs.Book.{blank, has_station, turned, after, reply};
 ghost use Rattle.planner.specs.State.{book};
 
-use super::super::change::{Change, Refusal};
 use super::Planner;
+use crate::change::{Change, Refusal};
 use mapfile::map::Map;
 
 // The longest turnout, in tenths of a second.
 const LONGEST_TURNOUT: u32 = 36000;
 // The most places that may have a station.
 const MOST_STATIONS: usize = 64;
+
+// The place in its table of a number that counts below `count`.
+fn known(number: u32, count: usize) -> Result<usize, Refusal>
+    ensures known { IfOk result (λ at. (at ≡ number) × (number < count)) }
+    ensures unknown { IfErr result (λ e. (e ≡ Refusal.UnknownNumber) × (count ≤ number)) }
+{
+    let at = number as usize;
+    if at >= count {
+        return Err(Refusal::UnknownNumber);
+    }
+    Ok(at)
+}
 
 impl<'a> Planner<'a> {
     // A planner of a map, without stations, all links open, unsolved.
@@ -30,10 +42,8 @@ impl<'a> Planner<'a> {
         requires { at < 2048 }
         ensures { result ≡ has_station (book self.now) at }
     {
-        match self.stations[at] {
-            Some(_) => true,
-            None => false,
-        }
+        let station = self.stations[at];
+        station.is_some()
     }
 
     // Sets a station, or replaces its turnout.
@@ -42,10 +52,7 @@ impl<'a> Planner<'a> {
         ensures book { book self.new ≡ after self.old.map.counts (book self.old) (Change.Place place turnout) }
         ensures map { self.new.map ≡ self.old.map }
     {
-        let at = place as usize;
-        if at >= self.map.counts().places {
-            return Err(Refusal::UnknownNumber);
-        }
+        let at = known(place, self.map.counts().places)?;
         if turnout > LONGEST_TURNOUT {
             return Err(Refusal::TurnoutTooLong);
         }
@@ -66,15 +73,27 @@ impl<'a> Planner<'a> {
         ensures book { book self.new ≡ after self.old.map.counts (book self.old) (Change.Lift place) }
         ensures map { self.new.map ≡ self.old.map }
     {
-        let at = place as usize;
-        if at >= self.map.counts().places {
-            return Err(Refusal::UnknownNumber);
-        }
+        let at = known(place, self.map.counts().places)?;
         if !self.has_station(at) {
             return Err(Refusal::AlreadySo);
         }
         self.stations[at] = None;
         self.standing -= 1;
+        self.solved = false;
+        Ok(())
+    }
+
+    // Closes a link, or reopens it.
+    fn turn(&mut self, link: u32, closed: bool) -> Result<(), Refusal>
+        ensures reply { result ≡ reply self.old.map.counts (book self.old) (turned closed link) }
+        ensures book { book self.new ≡ after self.old.map.counts (book self.old) (turned closed link) }
+        ensures map { self.new.map ≡ self.old.map }
+    {
+        let at = known(link, self.map.counts().links)?;
+        if self.closed[at] == closed {
+            return Err(Refusal::AlreadySo);
+        }
+        self.closed[at] = closed;
         self.solved = false;
         Ok(())
     }
@@ -85,16 +104,7 @@ impl<'a> Planner<'a> {
         ensures book { book self.new ≡ after self.old.map.counts (book self.old) (Change.Close link) }
         ensures map { self.new.map ≡ self.old.map }
     {
-        let at = link as usize;
-        if at >= self.map.counts().links {
-            return Err(Refusal::UnknownNumber);
-        }
-        if self.closed[at] {
-            return Err(Refusal::AlreadySo);
-        }
-        self.closed[at] = true;
-        self.solved = false;
-        Ok(())
+        self.turn(link, true)
     }
 
     // Reopens a link.
@@ -103,15 +113,6 @@ impl<'a> Planner<'a> {
         ensures book { book self.new ≡ after self.old.map.counts (book self.old) (Change.Reopen link) }
         ensures map { self.new.map ≡ self.old.map }
     {
-        let at = link as usize;
-        if at >= self.map.counts().links {
-            return Err(Refusal::UnknownNumber);
-        }
-        if !self.closed[at] {
-            return Err(Refusal::AlreadySo);
-        }
-        self.closed[at] = false;
-        self.solved = false;
-        Ok(())
+        self.turn(link, false)
     }
 }

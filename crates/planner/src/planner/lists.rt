@@ -2,8 +2,8 @@ ghost use Rattle.std.specs.Prelude.{◌≡◌};
 ghost use Rattle.planner.specs.Book.{blank, after, reply, after_all};
 ghost use Rattle.planner.specs.State.{book};
 
-use super::super::change::{Change, Refusal};
 use super::Planner;
+use crate::change::{Change, Refusal};
 use mapfile::map::Map;
 
 impl<'a> Planner<'a> {

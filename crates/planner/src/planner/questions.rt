@@ -17,16 +17,14 @@ impl<'a> Planner<'a> {
     pub fn turnout(&self, place: u32) -> Option<u32>
         ensures { result ≡ slice_index_or (book self.now).stations place None }
     {
-        let at = place as usize;
-        if at < 2048 { self.stations[at] } else { None }
+        self.stations.get(place as usize).copied().flatten()
     }
 
     // Whether a link is closed.
     pub fn is_closed(&self, link: u32) -> bool
         ensures { result ≡ is_closed (book self.now) link }
     {
-        let at = link as usize;
-        if at < 4096 { self.closed[at] } else { false }
+        self.closed.get(link as usize).is_some_and(|&closed| closed)
     }
 
     // Whether nothing was changed since the plan was solved.

@@ -7,10 +7,11 @@ use Rattle.planner.proofs.planner.Planner.place.Goals.{then-not-has_station+else
 pub invariant_of-self-2 : goal.invariant_of-self-2
 invariant_of-self-2 c =
     let p = c.args.self.now in
+    let i = c.in_ok-at.at in
     let e = ap (λ n. n.places) c.counts.ensures in
-    let lt : c.args.place < length p.stations = omega (arith, e, p.map.sized, p.sized) in
-    let new : c.if-not-has_station.self.1.1.1.0 ≡ stationed (set p.stations c.args.place (Some c.args.turnout)) = elim c.if-not-has_station.branch [
-      | then-not-has_station+else-self-ge-MOST_STATIONS w ↦ ap (λ x. x.1.1.1.0) w.self-is ∙ placed p.stations c.args.place p.standing c.args.turnout lt p.counted (sym w.if-not-has_station.ensures)
-      | else-not-has_station w ↦ ap (λ x. x.1.1.1.0) w.self-is ∙ replaced p.stations c.args.place p.standing c.args.turnout lt p.counted (sym w.if-not-has_station.ensures)
+    let lt : i < length p.stations = omega (arith, e, c.in_ok-at.ensures.known, p.map.sized, p.sized) in
+    let new : c.if-not-has_station.self.1.1.1.0 ≡ stationed (set p.stations i (Some c.args.turnout)) = elim c.if-not-has_station.branch [
+      | then-not-has_station+else-self-ge-MOST_STATIONS w ↦ ap (λ x. x.1.1.1.0) w.self-is ∙ placed p.stations i p.standing c.args.turnout lt p.counted (sym w.if-not-has_station.ensures)
+      | else-not-has_station w ↦ ap (λ x. x.1.1.1.0) w.self-is ∙ replaced p.stations i p.standing c.args.turnout lt p.counted (sym w.if-not-has_station.ensures)
     ] in
     record { sized = (simp length-set p.sized.0, p.sized.1); counted = new }
