@@ -1,5 +1,5 @@
 -- Numbers in a line: 1 to 10 decimal digits, up to 4294967295.
-use Rattle.std.specs.Prelude.{◌≡◌, ℕ, ◌+◌, ◌-◌, ◌*◌, ◌≤◌, Bool, true, cond, ◌&&◌, List, [], ◌∷◌, length, Some, None, fold, Option, nat_le}
+use Rattle.std.specs.Prelude.{◌≡◌, ℕ, ◌+◌, ◌-◌, ◌*◌, ◌≤◌, Bool, true, if◌then◌else◌, ◌&&◌, List, [], ◌∷◌, length, Some, None, fold, Option, nat_le}
 
 abbrev pub is_digit : ℕ → Bool
 is_digit d = nat_le 48 d && nat_le d 57
@@ -24,4 +24,5 @@ pub record Numeral (ds : List ℕ) (n : ℕ) : Type 0 where
 
 -- the number that `ds` spells, if it spells one
 unfoldable pub number : List ℕ → Option ℕ
-number ds = cond (nat_le 1 (length ds) && (nat_le (length ds) 10 && (digits ds && nat_le (value ds) 4294967295))) (Some (value ds)) None
+number ds =
+    if nat_le 1 (length ds) && (nat_le (length ds) 10 && (digits ds && nat_le (value ds) 4294967295)) then Some (value ds) else None

@@ -1,6 +1,6 @@
-ghost use Rattle.std.specs.Prelude.{◌≡◌, Some};
+ghost use Rattle.std.specs.Prelude.{◌≡◌, ◌==◌, Some, position};
 ghost use Rattle.console.specs.Grammar.{Spells};
-ghost use Rattle.console.specs.Lines.{content, space, pair_of, single, meaning};
+ghost use Rattle.console.specs.Lines.{content, pair_of, single, meaning};
 
 use super::numeral::number;
 use planner::change::Change;
@@ -15,27 +15,19 @@ pub fn content(line: &[u8]) -> &[u8]
     }
 }
 
-// How many bytes stand before the first space.
-fn space(bytes: &[u8]) -> usize
-    ensures { result ≡ space bytes.now }
+// Where the first space stands.
+fn space(bytes: &[u8]) -> Option<usize>
+    ensures { result ≡ position (λ b. b == 32) bytes.now }
 {
-    for (i, byte) in bytes.iter().enumerate() {
-        if *byte == b' ' {
-            return i;
-        }
-    }
-    bytes.len()
+    bytes.iter().position(|&byte| byte == b' ')
 }
 
 // A station's place and turnout, with a space between them.
 fn station(bytes: &[u8]) -> Option<Change>
     ensures { result ≡ pair_of bytes.now }
 {
-    let end = space(bytes);
-    if end >= bytes.len() {
-        return None;
-    }
-    let place = number(&bytes[0..end])?;
+    let end = space(bytes)?;
+    let place = number(&bytes[..end])?;
     let turnout = number(&bytes[end + 1..])?;
     Some(Change::Place { place, turnout })
 }
@@ -56,13 +48,10 @@ fn single(letter: u8, number: u32) -> Option<Change>
 fn meant(line: &[u8]) -> Option<Change>
     ensures { result ≡ meaning line.now }
 {
-    if line.len() < 2 || line[1] != b' ' {
-        return None;
-    }
-    let rest = &line[2..];
-    match line[0] {
-        b'P' => station(rest),
-        letter => single(letter, number(rest)?),
+    match line {
+        [b'P', b' ', rest @ ..] => station(rest),
+        [letter, b' ', rest @ ..] => single(*letter, number(rest)?),
+        _ => None,
     }
 }
 

@@ -5,19 +5,15 @@ ghost use Rattle.console.specs.Numerals.{number};
 pub fn number(digits: &[u8]) -> Option<u32>
     ensures { result ≡ number digits.now }
 {
-    if digits.is_empty() || digits.len() > 10 {
+    if !(1..=10).contains(&digits.len()) {
         return None;
     }
     let mut value: u64 = 0;
     for digit in digits {
-        if *digit < b'0' || *digit > b'9' {
+        if !digit.is_ascii_digit() {
             return None;
         }
-        value = value * 10 + (*digit - b'0') as u64;
+        value = value * 10 + u64::from(*digit - b'0');
     }
-    if value > 4294967295 {
-        None
-    } else {
-        Some(value as u32)
-    }
+    u32::try_from(value).ok()
 }
