@@ -23,7 +23,7 @@ pub fn divided(heap: Global, map: &Map<'_>, closed: &[bool; 4096]) -> Result<Lis
     let mut order = vec![in heap; 0u32; network.places]?;
     let count = match divide(&network, triggers.as_mut_slice(), order.as_mut_slice()) {
         Ok(division) => division.count,
-        Err(_) => unreachable(),
+        Err(_) => unreachable!(),
     };
     Ok(Listed { triggers, count })
 }
