@@ -28,26 +28,24 @@ fn generated(
 // Closes about one link in eight.
 fn closures(random: &mut Random) -> [bool; 4096] {
     let mut closed = [false; 4096];
-    for k in 0..160usize {
-        closed[k] = random.below_forty() < 5;
+    for shut in closed.iter_mut().take(160) {
+        *shut = random.below_forty() < 5;
     }
     closed
 }
 
 // How many places have another trigger than by the definition.
-fn wrong_triggers(into: &[u64; 40], triggers: &[u32]) -> u32 {
+fn wrong_triggers(into: &[u64; 40], triggers: &[u32]) -> usize {
     let held = complete(into);
-    let mut wrong = 0u32;
-    for (place, found) in triggers.iter().enumerate() {
-        if trigger(&held, place) != *found as usize {
-            wrong = wrong.saturating_add(1);
-        }
-    }
-    wrong
+    triggers
+        .iter()
+        .enumerate()
+        .filter(|(place, found)| trigger(&held, *place) != **found as usize)
+        .count()
 }
 
 // How many of the first entries of the order list stand before one of their approaches that is no trigger.
-fn misplaced(into: &[u64; 40], triggers: &[u32], order: &[u32], count: usize) -> u32 {
+fn misplaced(into: &[u64; 40], triggers: &[u32], order: &[u32], count: usize) -> usize {
     let mut own = 0u64;
     for (place, found) in triggers.iter().enumerate() {
         if place < 40 && place == *found as usize {
@@ -55,7 +53,7 @@ fn misplaced(into: &[u64; 40], triggers: &[u32], order: &[u32], count: usize) ->
         }
     }
     let mut seen = 0u64;
-    let mut wrong = 0u32;
+    let mut wrong = 0usize;
     for entry in order.iter().take(triggers.len().saturating_sub(count)) {
         let place = *entry as usize;
         if place >= 40 || into[place] & !own & !seen != 0 {
@@ -68,7 +66,7 @@ fn misplaced(into: &[u64; 40], triggers: &[u32], order: &[u32], count: usize) ->
 }
 
 // Divides one map both ways, and answers how many entries differ.
-fn differences(heap: Global, map: &Map<'_>, closed: &[bool; 4096]) -> Result<u32, AllocError> {
+fn differences(heap: Global, map: &Map<'_>, closed: &[bool; 4096]) -> Result<usize, AllocError> {
     let network = Network::of_map(map, closed);
     let mut triggers = vec![in heap; 0u32; network.places]?;
     let mut order = vec![in heap; 0u32; network.places]?;
@@ -88,7 +86,7 @@ fn differences(heap: Global, map: &Map<'_>, closed: &[bool; 4096]) -> Result<u32
 // Compares on 400 maps and prints how many differ.
 pub fn compare(rt: &HostRuntime) -> io::Result<()> {
     let mut random = Random::new(1);
-    let mut differ = 0u32;
+    let mut differ = 0usize;
     let mut refused = 0u32;
     for round in 0..400u16 {
         let file = generated(rt.alloc(), &mut random, round % 40 + 1, round % 4 + 1)?;

@@ -1,6 +1,6 @@
 // Files, stations and lines at their limits, each with its answer.
 use super::files::{lawful, patched};
-use console::answer::Answer;
+use console::answer::{Answer, Denial};
 use console::session::handle;
 use mapfile::map::Map;
 use planner::planner::Planner;
@@ -9,39 +9,27 @@ use std::io;
 // Prints the answer to a file.
 fn report(rt: &HostRuntime, name: &str, file: &[u8]) -> io::Result<()> {
     let mut map = Map::empty();
-    let answer = match map.read(file) {
-        Ok(()) => Answer::Done,
-        Err(fault) => Answer::BadMap(fault),
-    };
+    let answer = Answer(map.read(file).map_err(Denial::from));
     println!(rt; "{name}: {answer}")
 }
 
 // Files of every shape: none of some records, and as many of each as there may be.
 pub fn shapes(rt: &HostRuntime) -> io::Result<()> {
-    report(rt, "one place", lawful(rt.alloc(), 1, 0, 0)?.as_slice())?;
-    report(rt, "no links", lawful(rt.alloc(), 5, 0, 1)?.as_slice())?;
-    report(rt, "no signals", lawful(rt.alloc(), 5, 6, 0)?.as_slice())?;
-    report(
-        rt,
-        "the largest map",
-        lawful(rt.alloc(), 2048, 4096, 256)?.as_slice(),
-    )?;
-    report(
-        rt,
-        "a place more",
-        lawful(rt.alloc(), 2049, 6, 1)?.as_slice(),
-    )?;
-    report(
-        rt,
-        "a link more",
-        lawful(rt.alloc(), 5, 4097, 1)?.as_slice(),
-    )?;
-    report(
-        rt,
-        "a signal more",
-        lawful(rt.alloc(), 5, 6, 257)?.as_slice(),
-    )?;
-    report(rt, "no place", lawful(rt.alloc(), 0, 0, 0)?.as_slice())
+    let shapes = [
+        ("one place", 1, 0, 0),
+        ("no links", 5, 0, 1),
+        ("no signals", 5, 6, 0),
+        ("the largest map", 2048, 4096, 256),
+        ("a place more", 2049, 6, 1),
+        ("a link more", 5, 4097, 1),
+        ("a signal more", 5, 6, 257),
+        ("no place", 0, 0, 0),
+    ];
+    for (name, places, links, signals) in shapes {
+        let file = lawful(rt.alloc(), places, links, signals)?;
+        report(rt, name, file.as_slice())?;
+    }
+    Ok(())
 }
 
 // A lawful file of 5 places, 6 links and a signal, cut short or drawn out.
@@ -93,11 +81,8 @@ pub fn fields(rt: &HostRuntime) -> io::Result<()> {
         ("zero of a signal", 124, 1),
     ];
     for (name, at, value) in changes {
-        report(
-            rt,
-            name,
-            patched(rt.alloc(), file.as_slice(), at, value)?.as_slice(),
-        )?;
+        let changed = patched(rt.alloc(), file.as_slice(), at, value)?;
+        report(rt, name, changed.as_slice())?;
     }
     Ok(())
 }
@@ -134,7 +119,7 @@ pub fn lines(rt: &HostRuntime) -> io::Result<()> {
         "",
     ];
     for line in lines {
-        let answer = handle(&mut planner, line.as_bytes());
+        let answer = Answer(handle(&mut planner, line.as_bytes()));
         println!(rt; "'{line}': {answer}")?;
     }
     Ok(())

@@ -1,9 +1,16 @@
 use std::alloc::{AllocError, Global};
 
+// Numbers of two bytes, least byte first.
+fn words(file: &mut Vec<u8>, words: &[u16]) -> Result<(), AllocError> {
+    for word in words {
+        file.extend_from_slice(&word.to_le_bytes())?;
+    }
+    Ok(())
+}
+
 // A line of the contents.
 fn contents_line(file: &mut Vec<u8>, kind: u8, count: u16, start: u32) -> Result<(), AllocError> {
-    file.extend_from_slice(&[kind, 0])?;
-    file.extend_from_slice(&count.to_le_bytes())?;
+    words(file, &[u16::from(kind), count])?;
     file.extend_from_slice(&start.to_le_bytes())
 }
 
@@ -18,10 +25,7 @@ fn contents(file: &mut Vec<u8>, places: u16, links: u16, signals: u16) -> Result
 
 // A link with a running time, without class, signal and grade.
 pub fn plain_link(file: &mut Vec<u8>, from: u16, to: u16, run: u16) -> Result<(), AllocError> {
-    file.extend_from_slice(&from.to_le_bytes())?;
-    file.extend_from_slice(&to.to_le_bytes())?;
-    file.extend_from_slice(&run.to_le_bytes())?;
-    file.extend_from_slice(&[0, 0, 255, 255, 0, 0])
+    words(file, &[from, to, run, 0, 65535, 0])
 }
 
 // The contents and places of a map, for its links and signals to follow.
@@ -42,20 +46,12 @@ fn link(file: &mut Vec<u8>, number: u16, places: u16, signals: u16) -> Result<()
     } else {
         number % signals
     };
-    file.extend_from_slice(&place.to_le_bytes())?;
-    file.extend_from_slice(&place.to_le_bytes())?;
-    file.extend_from_slice(&number.to_le_bytes())?;
-    file.extend_from_slice(&[(number % 16) as u8, 0])?;
-    file.extend_from_slice(&signal.to_le_bytes())?;
-    file.extend_from_slice(&1000u16.to_le_bytes())
+    words(file, &[place, place, number, number % 16, signal, 1000])
 }
 
 // A signal whose cycle, start and green are as long as they may be.
 fn signal(file: &mut Vec<u8>) -> Result<(), AllocError> {
-    file.extend_from_slice(&2400u16.to_le_bytes())?;
-    file.extend_from_slice(&2399u16.to_le_bytes())?;
-    file.extend_from_slice(&2400u16.to_le_bytes())?;
-    file.extend_from_slice(&[0, 0])
+    words(file, &[2400, 2399, 2400, 0])
 }
 
 // A map file with so many places, links and signals, whose records keep their rules.
@@ -73,8 +69,8 @@ pub fn lawful(heap: Global, places: u16, links: u16, signals: u16) -> Result<Vec
 // A copy of a file with one byte changed.
 pub fn patched(heap: Global, file: &[u8], at: usize, value: u8) -> Result<Vec<u8>, AllocError> {
     let mut copy = file.to_vec(heap)?;
-    if at < copy.len() {
-        copy[at] = value;
+    if let Some(byte) = copy.get_mut(at) {
+        *byte = value;
     }
     Ok(copy)
 }

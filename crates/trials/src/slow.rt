@@ -1,12 +1,15 @@
+ghost use Rattle.std.specs.Prelude.{◌<◌};
+
 // The division by its definition, for up to 40 places: sets of places are the bits of a number.
 use mapfile::map::Map;
+use std::array;
 
 // Of each place the places from which an open link leads to it.
 pub fn approaches(map: &Map<'_>, closed: &[bool; 4096]) -> [u64; 40] {
     let mut into = [0u64; 40];
-    for k in 0..4096u32 {
-        if let Some(link) = map.link(k) {
-            if !closed[k as usize] && link.from < 40 && link.to < 40 {
+    for (number, shut) in (0..4096).zip(closed) {
+        if let Some(link) = map.link(number) {
+            if !*shut && link.from < 40 && link.to < 40 {
                 into[link.to as usize] |= 1u64 << link.from;
             }
         }
@@ -17,50 +20,41 @@ pub fn approaches(map: &Map<'_>, closed: &[bool; 4096]) -> [u64; 40] {
 // One round of growth: the places all of whose approaches are in the set, if they have any.
 fn fed(into: &[u64; 40], set: u64) -> u64 {
     let mut more = 0u64;
-    for w in 0..40usize {
-        if into[w] != 0 && into[w] & !set == 0 {
-            more |= 1u64 << w;
+    for (place, from) in into.iter().enumerate() {
+        if *from != 0 && *from & !set == 0 {
+            more |= 1u64 << place;
         }
     }
     more
 }
 
+// The complete structure of a place.
+fn grown(into: &[u64; 40], place: usize) -> u64
+    requires { place < 40 }
+{
+    (0..40).fold(1u64 << place, |set, _| set | fed(into, set))
+}
+
 // The complete structure of each place.
 pub fn complete(into: &[u64; 40]) -> [u64; 40] {
-    let mut held = [0u64; 40];
-    for v in 0..40usize {
-        let mut set = 1u64 << v;
-        for _ in 0..40 {
-            set |= fed(into, set);
-        }
-        held[v] = set;
-    }
-    held
+    array::from_fn(|place| grown(into, place))
 }
 
 fn holds(set: u64, place: usize) -> bool {
     place < 64 && (set >> place) & 1 == 1
 }
 
-// Whether a place holds every place that holds it.
-fn is_top(held: &[u64; 40], t: usize) -> bool {
-    if t >= 40 {
-        return false;
-    }
-    for x in 0..40usize {
-        if holds(held[x], t) && !holds(held[t], x) {
-            return false;
-        }
-    }
-    true
+// Whether the place `top`, which holds `own`, holds every place that holds it.
+fn is_top(held: &[u64; 40], top: usize, own: u64) -> bool {
+    held.iter()
+        .enumerate()
+        .all(|(place, set)| !holds(*set, top) || holds(own, place))
 }
 
 // The trigger of a place: the lowest place that holds it and every place that holds the trigger.
 pub fn trigger(held: &[u64; 40], place: usize) -> usize {
-    for t in 0..40usize {
-        if holds(held[t], place) && is_top(held, t) {
-            return t;
-        }
-    }
-    40
+    held.iter()
+        .enumerate()
+        .position(|(top, own)| holds(*own, place) && is_top(held, top, *own))
+        .unwrap_or(40)
 }
