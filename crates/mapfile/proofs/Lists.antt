@@ -1,5 +1,7 @@
 -- Laws of lists of checks.
-use Rattle.std.proofs.Common.{◌≡◌, ℕ, zero, suc, ◌+◌, ◌<◌, Bool, true, false, ◌⊎◌, List, [], ◌∷◌, ◌++◌, Ok, Err, sym, refl, ◌∙◌, ⊎_elim, add-one, arith}
+use Rattle.std.proofs.Common.{◌≡◌, ℕ, zero, suc, ◌+◌, ◌<◌, Bool, true, false, ◌⊎◌, List, [], ◌∷◌, ◌++◌, Ok, Err, Result, sym, refl, ◌∙◌, ⊎_elim, add-one, arith, ap}
+use Rattle.std.specs.Prelude.{IsErrAnd}
+use Rattle.std.proofs.lemmas.Result.{err_from_is_err_and}
 use Rattle.mapfile.specs.declared.fault.Fault.{Fault}
 use Rattle.mapfile.specs.Checks.{Check, answer, each, AllKept}
 
@@ -91,3 +93,7 @@ each_done f n i a e h = rw e at (sym (ok_of_kept (each i f) a h))
 -- ---- one list after another
 pub answer_next : {A B : Type 0} (xs ys : List Check) (a b : A) (d : B) → answer xs a ≡ Ok b → answer (xs ++ ys) d ≡ answer ys d
 answer_next xs ys a b d h = answer_past xs ys d (kept_of_ok xs a b h)
+
+-- ---- a fault that a `?` passes on is the answer where the answer is that fault
+pub passed_on : {A : Type 0} (r s : Result A Fault) (e : Fault) → IsErrAnd r (λ x. x ≡ e) → s ≡ Err e → r ≡ s
+passed_on r s e h q = let p = err_from_is_err_and r h in p.1 ∙ ap Err p.2 ∙ sym q

@@ -1,4 +1,4 @@
-ghost use Rattle.std.specs.Prelude.{◌≡◌, ◌+◌, ◌*◌, ◌<◌, ◌≤◌, length, Some, None, IsSome, IfSome};
+ghost use Rattle.std.specs.Prelude.{◌≡◌, ◌+◌, ◌*◌, ◌<◌, ◌≤◌, ◌↔◌, length, Some, None, IsSome, IfSome};
 ghost use Rattle.mapfile.specs.Bodies.{shown, body_of, record_at};
 ghost use Rattle.mapfile.specs.Codes.{size};
 ghost use Rattle.mapfile.specs.Layout.{count};
@@ -66,10 +66,9 @@ impl<'a> Map<'a> {
 
     // The bytes of a record, if there is one of that number.
     fn record(&self, kind: BodyKind, number: u32) -> Option<&'a [u8]>
-        ensures known { number < count self.now.counts kind → IsSome result }
+        ensures known { IsSome result ↔ (number < count self.now.counts kind) }
         ensures bytes { IfSome result (λ r. r.now ≡ record_at kind (body_of (bytes_of self.now) self.now.counts kind).bytes number) }
         ensures long { IfSome result (λ r. length r.now ≡ size kind) }
-        ensures unknown { count self.now.counts kind ≤ number → result ≡ None }
     {
         let at = number as usize;
         if at >= self.counts.of(kind) {

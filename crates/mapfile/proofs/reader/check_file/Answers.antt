@@ -1,21 +1,19 @@
-use Rattle.std.proofs.Common.{Err, sym, ap, ◌∙◌}
-use Rattle.std.proofs.lemmas.Result.{err_from_is_err_and}
+use Rattle.std.proofs.Common.{sym, ◌∙◌}
 use Rattle.mapfile.specs.declared.body.BodyKind.{BodyKind}
 use Rattle.mapfile.specs.declared.body.BodyKind.TheVariants.{Places, Links, Signals}
+use Rattle.mapfile.proofs.Lists.{passed_on}
 use Rattle.mapfile.proofs.Reading.{body_same, contents_stop, length_stop, places_stop, links_stop, signals_stop, all_kept}
 use Rattle.mapfile.proofs.reader.check_file.Goals as goal
 
 pub returns-in_err-counts : goal.returns-in_err-counts
 returns-in_err-counts c =
-    let p = err_from_is_err_and c.from_residual.result c.from_residual.ensures.1 in
-    p.1 ∙ ap Err p.2 ∙ sym (contents_stop c.args.file.now _ (sym c.check_contents.ensures.value ∙ c.in_err-counts.was))
+    passed_on _ _ _ c.from_residual.ensures.1 (contents_stop c.args.file.now _ (sym c.check_contents.ensures.value ∙ c.in_err-counts.was))
 
 pub returns-in_err-bodies : goal.returns-in_err-bodies
 returns-in_err-bodies c =
     let f = c.args.file.now in
     let n = c.in_ok-counts.counts in
-    let p = err_from_is_err_and c.from_residual-in_err-bodies.result c.from_residual-in_err-bodies.ensures.1 in
-    p.1 ∙ ap Err p.2 ∙ sym (length_stop f n _ (sym c.check_contents.ensures.value ∙ c.in_ok-counts.was) c.in_err-bodies.ensures.broken)
+    passed_on _ _ _ c.from_residual-in_err-bodies.ensures.1 (length_stop f n _ (sym c.check_contents.ensures.value ∙ c.in_ok-counts.was) c.in_err-bodies.ensures.broken)
 
 pub returns-in_err-check : goal.returns-in_err-check
 returns-in_err-check c =
@@ -23,8 +21,7 @@ returns-in_err-check c =
     let n = c.in_ok-counts.counts in
     let b = c.in_ok-bodies.bodies in
     let same = λ (k : BodyKind). sym (body_same f b.file.now n b.counts k c.in_ok-bodies.ensures.file c.in_ok-bodies.ensures.counts) in
-    let p = err_from_is_err_and c.from_residual-in_err-check.result c.from_residual-in_err-check.ensures.1 in
-    p.1 ∙ ap Err p.2 ∙ sym (places_stop f n _ (sym c.check_contents.ensures.value ∙ c.in_ok-counts.was) c.in_ok-bodies.ensures.kept (same Places ∙ sym c.check.ensures ∙ c.in_err-check.was))
+    passed_on _ _ _ c.from_residual-in_err-check.ensures.1 (places_stop f n _ (sym c.check_contents.ensures.value ∙ c.in_ok-counts.was) c.in_ok-bodies.ensures.kept (same Places ∙ sym c.check.ensures ∙ c.in_err-check.was))
 
 pub returns-in_err-check-2 : goal.returns-in_err-check-2
 returns-in_err-check-2 c =
@@ -32,8 +29,7 @@ returns-in_err-check-2 c =
     let n = c.in_ok-counts.counts in
     let b = c.in_ok-bodies.bodies in
     let same = λ (k : BodyKind). sym (body_same f b.file.now n b.counts k c.in_ok-bodies.ensures.file c.in_ok-bodies.ensures.counts) in
-    let p = err_from_is_err_and c.from_residual-in_err-check-2.result c.from_residual-in_err-check-2.ensures.1 in
-    p.1 ∙ ap Err p.2 ∙ sym (links_stop f n _ (sym c.check_contents.ensures.value ∙ c.in_ok-counts.was) c.in_ok-bodies.ensures.kept (same Places ∙ sym c.check.ensures ∙ c.in_ok-check.was) (same Links ∙ sym c.check-2.ensures ∙ c.in_err-check-2.was))
+    passed_on _ _ _ c.from_residual-in_err-check-2.ensures.1 (links_stop f n _ (sym c.check_contents.ensures.value ∙ c.in_ok-counts.was) c.in_ok-bodies.ensures.kept (same Places ∙ sym c.check.ensures ∙ c.in_ok-check.was) (same Links ∙ sym c.check-2.ensures ∙ c.in_err-check-2.was))
 
 pub returns-in_err-check-3 : goal.returns-in_err-check-3
 returns-in_err-check-3 c =
@@ -41,8 +37,7 @@ returns-in_err-check-3 c =
     let n = c.in_ok-counts.counts in
     let b = c.in_ok-bodies.bodies in
     let same = λ (k : BodyKind). sym (body_same f b.file.now n b.counts k c.in_ok-bodies.ensures.file c.in_ok-bodies.ensures.counts) in
-    let p = err_from_is_err_and c.from_residual-in_err-check-3.result c.from_residual-in_err-check-3.ensures.1 in
-    p.1 ∙ ap Err p.2 ∙ sym (signals_stop f n _ (sym c.check_contents.ensures.value ∙ c.in_ok-counts.was) c.in_ok-bodies.ensures.kept (same Places ∙ sym c.check.ensures ∙ c.in_ok-check.was) (same Links ∙ sym c.check-2.ensures ∙ c.in_ok-check-2.was) (same Signals ∙ sym c.check-3.ensures ∙ c.in_err-check-3.was))
+    passed_on _ _ _ c.from_residual-in_err-check-3.ensures.1 (signals_stop f n _ (sym c.check_contents.ensures.value ∙ c.in_ok-counts.was) c.in_ok-bodies.ensures.kept (same Places ∙ sym c.check.ensures ∙ c.in_ok-check.was) (same Links ∙ sym c.check-2.ensures ∙ c.in_ok-check-2.was) (same Signals ∙ sym c.check-3.ensures ∙ c.in_err-check-3.was))
 
 pub returns : goal.returns
 returns c =

@@ -1,8 +1,8 @@
-use Rattle.std.proofs.Common.{Err, sym, ap, ◌∙◌}
-use Rattle.std.proofs.lemmas.Result.{err_from_is_err_and}
+use Rattle.std.proofs.Common.{sym, ap, ◌∙◌}
 use Rattle.std.specs.Iterator.Adapters.{enumerate_count}
 use Rattle.mapfile.specs.Bodies.{Shown, body_checks}
 use Rattle.mapfile.specs.Checks.{answer}
+use Rattle.mapfile.proofs.Lists.{passed_on}
 use Rattle.mapfile.proofs.Cuts.{all_kept, first_broken, one_more, part_is, record_starts}
 use Rattle.mapfile.proofs.bodies.Bodies.check.Goals as goal
 
@@ -27,8 +27,7 @@ returns-in_err-before g c =
     let at = record_starts k c.KIND-2.result s.first c.size-size.result (enumerate_count c.loop-i.i-iterator) c.in-Some.i c.size-size.ensures c.KIND-2.ensures step.1 in
     let broken = first_broken s n _ _ _ _ c.loop-i.invariant.2 _ _ step.0.1.0 step.0.1.1 _ at _ _ (sym c.check.ensures ∙ c.in_err-before.was) in
     let e = part_is c.args.self.now.file.now n k c.KIND.result s.first s.bytes c.KIND.ensures c.part-part.ensures.first c.part-part.ensures.bytes in
-    let p = err_from_is_err_and c.from_residual.result c.from_residual.ensures.1 in
-    p.1 ∙ ap Err p.2 ∙ sym broken ∙ ap (λ t. answer (body_checks t n) (tt {0})) e
+    passed_on _ _ _ c.from_residual.ensures.1 (sym (ap (λ t. answer (body_checks t n) (tt {0})) e) ∙ broken)
 
 pub returns : goal.returns
 returns g c =

@@ -3,14 +3,13 @@ use Rattle.std.proofs.lemmas.Result.{err_from_is_err_and}
 use Rattle.mapfile.specs.File.{checks}
 use Rattle.mapfile.specs.Layout.{counts}
 use Rattle.mapfile.proofs.Lawful.{sized_of_ok, rules_of_ok, counts_of_ok, lawful_of_ok, first_of_err, kept_of_lawful}
-use Rattle.mapfile.proofs.Lists.{err_any, ok_of_kept, kept_of_ok}
+use Rattle.mapfile.proofs.Lists.{err_any, ok_of_kept, kept_of_ok, passed_on}
 use Rattle.mapfile.proofs.map.Map.read.Goals as goal
 
 pub returns-in_err-counts-clause-value : goal.returns-in_err-counts-clause-value
 returns-in_err-counts-clause-value c =
     let f = c.args.file.now in
-    let p = err_from_is_err_and c.from_residual.result c.from_residual.ensures.1 in
-    p.1 ∙ ap Err p.2 ∙ sym (err_any (checks f) (counts f) (tt {0}) _ (sym c.check_file.ensures ∙ c.in_err-counts.was))
+    passed_on _ _ _ c.from_residual.ensures.1 (err_any (checks f) (counts f) (tt {0}) _ (sym c.check_file.ensures ∙ c.in_err-counts.was))
 
 pub returns-in_err-counts-clause-lawful : goal.returns-in_err-counts-clause-lawful
 returns-in_err-counts-clause-lawful c l =
