@@ -1,6 +1,6 @@
 ghost use Rattle.std.specs.Prelude.{◌≡◌, ◌<◌, ◌≤◌, IfOk, IfErr};
-ghost use Rattle.planner.specs.Book.{blank, has_station, turned, after, reply};
-ghost use Rattle.planner.specs.State.{book};
+ghost use Rattle.planner.specs.Book.{blank, has_station, turned};
+ghost use Rattle.planner.specs.State.{book, Makes};
 
 use super::Planner;
 use crate::change::{Change, Refusal};
@@ -48,9 +48,7 @@ impl<'a> Planner<'a> {
 
     // Sets a station, or replaces its turnout.
     pub fn place(&mut self, place: u32, turnout: u32) -> Result<(), Refusal>
-        ensures reply { result ≡ reply self.old.map.counts (book self.old) (Change.Place place turnout) }
-        ensures book { book self.new ≡ after self.old.map.counts (book self.old) (Change.Place place turnout) }
-        ensures map { self.new.map ≡ self.old.map }
+        ensures { Makes self.old self.new (Change.Place place turnout) result }
     {
         let at = known(place, self.map.counts().places)?;
         if turnout > LONGEST_TURNOUT {
@@ -69,9 +67,7 @@ impl<'a> Planner<'a> {
 
     // Strikes a station.
     pub fn lift(&mut self, place: u32) -> Result<(), Refusal>
-        ensures reply { result ≡ reply self.old.map.counts (book self.old) (Change.Lift place) }
-        ensures book { book self.new ≡ after self.old.map.counts (book self.old) (Change.Lift place) }
-        ensures map { self.new.map ≡ self.old.map }
+        ensures { Makes self.old self.new (Change.Lift place) result }
     {
         let at = known(place, self.map.counts().places)?;
         if !self.has_station(at) {
@@ -85,9 +81,7 @@ impl<'a> Planner<'a> {
 
     // Closes a link, or reopens it.
     fn turn(&mut self, link: u32, closed: bool) -> Result<(), Refusal>
-        ensures reply { result ≡ reply self.old.map.counts (book self.old) (turned closed link) }
-        ensures book { book self.new ≡ after self.old.map.counts (book self.old) (turned closed link) }
-        ensures map { self.new.map ≡ self.old.map }
+        ensures { Makes self.old self.new (turned closed link) result }
     {
         let at = known(link, self.map.counts().links)?;
         if self.closed[at] == closed {
@@ -100,18 +94,14 @@ impl<'a> Planner<'a> {
 
     // Closes a link.
     pub fn close(&mut self, link: u32) -> Result<(), Refusal>
-        ensures reply { result ≡ reply self.old.map.counts (book self.old) (Change.Close link) }
-        ensures book { book self.new ≡ after self.old.map.counts (book self.old) (Change.Close link) }
-        ensures map { self.new.map ≡ self.old.map }
+        ensures { Makes self.old self.new (Change.Close link) result }
     {
         self.turn(link, true)
     }
 
     // Reopens a link.
     pub fn reopen(&mut self, link: u32) -> Result<(), Refusal>
-        ensures reply { result ≡ reply self.old.map.counts (book self.old) (Change.Reopen link) }
-        ensures book { book self.new ≡ after self.old.map.counts (book self.old) (Change.Reopen link) }
-        ensures map { self.new.map ≡ self.old.map }
+        ensures { Makes self.old self.new (Change.Reopen link) result }
     {
         self.turn(link, false)
     }

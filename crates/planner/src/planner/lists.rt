@@ -1,6 +1,6 @@
 ghost use Rattle.std.specs.Prelude.{◌≡◌};
-ghost use Rattle.planner.specs.Book.{blank, after, reply, after_all};
-ghost use Rattle.planner.specs.State.{book};
+ghost use Rattle.planner.specs.Book.{blank, after_all};
+ghost use Rattle.planner.specs.State.{book, Makes};
 
 use super::Planner;
 use crate::change::{Change, Refusal};
@@ -9,9 +9,7 @@ use mapfile::map::Map;
 impl<'a> Planner<'a> {
     // Makes one change.
     pub fn make(&mut self, change: Change) -> Result<(), Refusal>
-        ensures reply { result ≡ reply self.old.map.counts (book self.old) change }
-        ensures book { book self.new ≡ after self.old.map.counts (book self.old) change }
-        ensures map { self.new.map ≡ self.old.map }
+        ensures { Makes self.old self.new change result }
     {
         match change {
             Change::Place { place, turnout } => self.place(place, turnout),
