@@ -17,6 +17,7 @@ pub fn each_line<F: FnMut(&[u8]) -> io::Result<()> + Drop>(
 {
     let mut input = BufReader::new(rt.alloc(), rt.stdin())?;
     let mut line = Vec::new(rt.alloc());
+    // The input may never end, and a loop has to.
     for _ in 0..u64::MAX {
         if input.read_until(b'\n', &mut line)? == 0 {
             break;

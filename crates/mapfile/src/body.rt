@@ -65,7 +65,7 @@ pub struct Part<'a> {
     pub bytes: &'a [u8],
 }
 
-// A body: the part of the file that holds all records of one kind.
+// A body: the part of the file that holds all records of one kind. An enum, since its cases are what a map hands out.
 #[derive(Clone, Copy)]
 pub enum Body<'a> {
     Places(Part<'a>),

@@ -2,7 +2,7 @@ ghost use Rattle.std.specs.Prelude.{◌≡◌, ◌+◌, ◌≤◌, length};
 ghost use Rattle.mapfile.specs.Bytes.{word, long};
 
 // The two bytes from `at` on, least byte first.
-// It stays beside `long_at`: `from_le_bytes` is a function of each number type, with an array of its own length.
+// Not one function with `long_at`: `from_le_bytes` is a function of each number type, over an array of its own length.
 pub fn word_at(bytes: &[u8], at: usize) -> u16
     requires { at + 2 ≤ length bytes.now }
     ensures { result ≡ word bytes.now at }

@@ -8,6 +8,7 @@ mod lists;
 mod questions;
 
 // A planner: the stations with their turnouts, by place, the closed links, and whether the plan is solved.
+// The tables are of the format's limits, and no map or vector, since planner calls allocate nothing.
 #[derive(Clone, Copy)]
 pub struct Planner<'a> {
     map: Map<'a>,
