@@ -1,41 +1,40 @@
 -- The growth from its start to its end, and the counters put back.
-use Rattle.std.proofs.Common.{◌≡◌, ℕ, ◌+◌, ◌<◌, ◌≤◌, Bool, true, false, not, ◌&&◌, eqb, ltb, ◌≢◌, ◌⊎◌, List, length, set, MatchBool, sym, refl, ap, ◌∙◌, subst, inl, inr, arith, get_or-set_other, get_or-set_same}
+use Rattle.std.proofs.Common.{◌≡◌, ℕ, ◌+◌, ◌<◌, ◌≤◌, Bool, true, false, not, ◌&&◌, eqb, ltb, ◌≢◌, ◌⊎◌, List, [], ◌∷◌, length, set, slice_range, slice_index_or, MatchBool, sym, refl, ap, ◌∙◌, subst, inl, inr, arith, get_or-set_other, get_or-set_same}
 use Rattle.std.proofs.lemmas.Bool.{both_ways, cases_eq, cases_Bool, and_parts, and_from, not-true, eq-eqb, eqb-true, eqb-false, ltb-true}
 use Rattle.network.specs.declared.network.Network.{Network}
 use Rattle.network.specs.Packed.{graph_of}
+use Rattle.network.specs.declared.link.OpenLink.{OpenLink}
+use Rattle.network.specs.Links.{blank}
+use Rattle.network.proofs.Leaving.{leaving_head, leaving_small}
 use Rattle.structures.specs.Graphs.{Graph, Approach}
 use Rattle.structures.specs.Computed.{some}
 use Rattle.structures.proofs.Tests.{some_decides}
 use Rattle.structures.proofs.Held.{Held, held_self, held_place, held_least, head_place}
 use Rattle.structures.proofs.Twins.{twin_bare, twin_outside}
 use Rattle.division.specs.Lists.{at}
-use Rattle.division.specs.Keeping.{Packed}
 use Rattle.division.specs.Growing.{Member, Before, Pending, Growing, Grown, Full, PutBack, Closed, Alone, approaches}
 use Rattle.division.proofs.Counts.{count_same, count_none, count_some}
-use Rattle.division.proofs.Parts.{packed_within, tail_part}
+use Rattle.network.proofs.Parts.{within, tail_part}
 use Rattle.division.proofs.Follow.{none_pending, all_done}
 
 -- v alone, with nothing done.
-pub growing_none : (n : Network) → Packed n → (v : ℕ) → v < n.places → (left members : List ℕ) → length members ≡ 2048 → Full (graph_of n) (at left) →
-    Growing (graph_of n) v (at (set members 0 v)) (at left) 1 (Before (graph_of n) (at (set members 0 v)) 0)
-growing_none n packed v here left members wide full = record {
+pub growing_none : (n : Network) → (v : ℕ) → v < n.places → (left : List ℕ) → Full (graph_of n) (at left) →
+    Growing (graph_of n) v (at (v ∷ [])) (at left) 1 (Before (graph_of n) (at (v ∷ [])) 0)
+growing_none n v here left full = record {
   pending = record { done = λ i. false; told = λ i lt. (λ e. absurd (both_ways false refl e), λ b. absurd (omega (arith, b.1))); counts = full };
   known = here;
   begun = omega arith;
-  first = own;
+  first = refl;
   short = omega arith;
-  only = λ q lt. subst (Held (graph_of n) v) (sym (ap (at (set members 0 v)) (zero_only q lt) ∙ own)) (held_self (graph_of n) v);
+  only = λ q lt. subst (Held (graph_of n) v) (sym (ap (at (v ∷ [])) (zero_only q lt))) (held_self (graph_of n) v);
   once = λ q r a b e. omega arith;
   from = λ i lt b. absurd (omega (arith, b.1));
   none_left = λ q pos lt. absurd (omega arith);
   after = λ q i pos lt. absurd (omega arith);
   joined = λ i lt ne none. absurd (count_none (λ j. eqb ((graph_of n).head j) ((graph_of n).head i)) (graph_of n).links
-      (sym (full ((graph_of n).head i) (packed.ends i lt)) ∙ none) i lt (eq-eqb ((graph_of n).head i) ((graph_of n).head i) refl));
+      (sym (full ((graph_of n).head i) (n.ends i lt)) ∙ none) i lt (eq-eqb ((graph_of n).head i) ((graph_of n).head i) refl));
 }
   where
-    own : at (set members 0 v) 0 ≡ v
-    own = get_or-set_same members 0 v 0 (omega arith)
-
     zero_only : (q : ℕ) → q < 1 → q ≡ 0
     zero_only q lt = omega arith
 
@@ -44,7 +43,7 @@ pub bare_alone : (n : Network) (v : ℕ) → v < n.places → (full : ℕ → �
 bare_alone n v here full fulls none m h k = twin_bare (graph_of n)
     (λ x a. count_none (λ j. eqb ((graph_of n).head j) v) (graph_of n).links (sym (fulls v here) ∙ none) a.link a.known (eq-eqb ((graph_of n).head a.link) v a.to)) k
 
-module _ (n : Network) (packed : Packed n) (v : ℕ) (member left : ℕ → ℕ) (len : ℕ) (growing : Growing (graph_of n) v member left len (Before (graph_of n) member len)) where
+module _ (n : Network) (v : ℕ) (member left : ℕ → ℕ) (len : ℕ) (growing : Growing (graph_of n) v member left len (Before (graph_of n) member len)) where
   -- every link into a place whose approaches are members is done
   fed : (x : ℕ) → ((y : ℕ) → Approach (graph_of n) y x → Member member len y) → (i : ℕ) → i < (graph_of n).links → (graph_of n).head i ≡ x → Before (graph_of n) member len i
   fed x all i lt e = all ((graph_of n).tail i) (record { link = i; known = lt; is_open = refl; from = refl; to = e })
@@ -56,7 +55,7 @@ module _ (n : Network) (packed : Packed n) (v : ℕ) (member left : ℕ → ℕ)
       takes x u a all = go (cases_eq x v)
         where
           place : x < n.places
-          place = head_place (graph_of n) (packed_within n packed) u x a
+          place = head_place (graph_of n) (within n) u x a
 
           go : (x ≡ v) ⊎ (x ≡ v → ⊥) → Member member len x
           go (inl e) = (0, growing.begun, growing.first ∙ sym e)
@@ -78,7 +77,7 @@ module _ (n : Network) (packed : Packed n) (v : ℕ) (member left : ℕ → ℕ)
   }
 
   pub grown_places : (q : ℕ) → q < len → member q < n.places
-  grown_places q lt = held_place (graph_of n) (packed_within n packed) growing.known (growing.only q lt)
+  grown_places q lt = held_place (graph_of n) (within n) growing.known (growing.only q lt)
 
   -- approached, and no link left: closed
   pub grown_closed : (full : ℕ → ℕ) → Full (graph_of n) full → 0 < full v → left v ≡ 0 → Closed (graph_of n) v
@@ -111,35 +110,32 @@ module _ (n : Network) (packed : Packed n) (v : ℕ) (member left : ℕ → ℕ)
 
 -- The counters while the links of u are put back.
 pub record Putting (n : Network) (u : ℕ) (full was now : ℕ → ℕ) (j : ℕ) : Type 0 where
-  pub heads : (i : ℕ) → at n.first u ≤ i → i < j → now (at n.heads i) ≡ full (at n.heads i)
+  pub heads : (i : ℕ) → at n.first u ≤ i → i < j → now ((graph_of n).head i) ≡ full ((graph_of n).head i)
   pub others : (w : ℕ) → (now w ≡ full w) ⊎ (now w ≡ was w)
 
-pub putting_none : (n : Network) (u : ℕ) (full was : ℕ → ℕ) (j : ℕ) → j ≡ at n.first u → Putting n u full was was j
-putting_none n u full was j e = record { heads = λ i low high. absurd (omega arith); others = λ w. inr refl }
-
-pub putting_more : (n : Network) (u : ℕ) (full left : List ℕ) (was : ℕ → ℕ) (j : ℕ) → Putting n u (at full) was (at left) j → at n.heads j < length left →
-    Putting n u (at full) was (at (set left (at n.heads j) (at full (at n.heads j)))) (j + 1)
+pub putting_more : (n : Network) (u : ℕ) (full left : List ℕ) (was : ℕ → ℕ) (j : ℕ) → Putting n u (at full) was (at left) j → (graph_of n).head j < length left →
+    Putting n u (at full) was (at (set left ((graph_of n).head j) (at full ((graph_of n).head j)))) (j + 1)
 putting_more n u full left was j putting within = record {
-  heads = λ i low high. head i low high (cases_eq (at n.heads i) h);
+  heads = λ i low high. head i low high (cases_eq ((graph_of n).head i) h);
   others = λ w. other w (cases_eq w h);
 }
   where
     h : ℕ
-    h = at n.heads j
+    h = (graph_of n).head j
 
     after : List ℕ
-    after = set left (at n.heads j) (at full (at n.heads j))
+    after = set left ((graph_of n).head j) (at full ((graph_of n).head j))
 
     new : at after h ≡ at full h
     new = get_or-set_same left h (at full h) 0 within
 
-    head : (i : ℕ) → at n.first u ≤ i → i < j + 1 → (at n.heads i ≡ h) ⊎ (at n.heads i ≡ h → ⊥) → at after (at n.heads i) ≡ at full (at n.heads i)
+    head : (i : ℕ) → at n.first u ≤ i → i < j + 1 → ((graph_of n).head i ≡ h) ⊎ ((graph_of n).head i ≡ h → ⊥) → at after ((graph_of n).head i) ≡ at full ((graph_of n).head i)
     head i low high (inl e) = ap (at after) e ∙ new ∙ ap (at full) (sym e)
     head i low high (inr ne) =
-        get_or-set_other left h (at n.heads i) (at full h) 0 ne ∙ putting.heads i low (earlier (cases_eq i j))
+        get_or-set_other left h ((graph_of n).head i) (at full h) 0 ne ∙ putting.heads i low (earlier (cases_eq i j))
       where
         earlier : (i ≡ j) ⊎ (i ≡ j → ⊥) → i < j
-        earlier (inl e) = absurd (ne (ap (at n.heads) e))
+        earlier (inl e) = absurd (ne (ap ((graph_of n).head) e))
         earlier (inr apart) = omega arith
 
     other : (w : ℕ) → (w ≡ h) ⊎ (w ≡ h → ⊥) → (at after w ≡ at full w) ⊎ (at after w ≡ was w)
@@ -153,9 +149,21 @@ putting_more n u full left was j putting within = record {
         go (inl e) = inl (same ∙ e)
         go (inr e) = inr (same ∙ e)
 
-pub putting_all : (n : Network) → Packed n → (u : ℕ) (full was now : ℕ → ℕ) (j : ℕ) → Putting n u full was now j → at n.first (u + 1) ≤ j → PutBack (graph_of n) u full was now
-putting_all n packed u full was now j putting past = record {
-  heads = λ i lt e. let p = tail_part n packed u i lt e in putting.heads i p.0 (omega (arith, p.1));
+-- one turn of the loop over the links that leave u
+pub putting_turn : (n : Network) (u : ℕ) → u < n.places → (items : List OpenLink) → items ≡ slice_range n.links (at n.first u) (at n.first (u + 1)) → (k : ℕ) → k < length items →
+    (full left : List ℕ) (was : ℕ → ℕ) → length left ≡ 2048 → Putting n u (at full) was (at left) (at n.first u + k) →
+    Putting n u (at full) was (at (set left (slice_index_or items k blank).head (at full (slice_index_or items k blank).head))) (at n.first u + (k + 1))
+putting_turn n u here items e k lt full left was long putting =
+    let h = leaving_head n u here items e k lt in
+    let small = leaving_small n u here items e k lt in
+    let next : at n.first u + k + 1 ≡ at n.first u + (k + 1) = omega arith in
+    subst (Putting n u (at full) was (at (set left (slice_index_or items k blank).head (at full (slice_index_or items k blank).head)))) next
+    (subst (λ x. Putting n u (at full) was (at (set left x (at full x))) (at n.first u + k + 1)) (sym h)
+    (putting_more n u full left was (at n.first u + k) putting (omega (arith, h, small, long))))
+
+pub putting_all : (n : Network) → (u : ℕ) (full was now : ℕ → ℕ) (j : ℕ) → Putting n u full was now j → at n.first (u + 1) ≤ j → PutBack (graph_of n) u full was now
+putting_all n u full was now j putting past = record {
+  heads = λ i lt e. let p = tail_part n u i lt e in putting.heads i p.0 (omega (arith, p.1));
   others = putting.others;
 }
 
@@ -163,28 +171,6 @@ putting_all n packed u full was now j putting past = record {
 pub record Emptying (g : Graph) (member full was now : ℕ → ℕ) (k : ℕ) : Type 0 where
   pub heads : (q i : ℕ) → q < k → i < g.links → g.tail i ≡ member q → now (g.head i) ≡ full (g.head i)
   pub others : (w : ℕ) → (now w ≡ full w) ⊎ (now w ≡ was w)
-
-pub emptying_none : (g : Graph) (member full was : ℕ → ℕ) → Emptying g member full was was 0
-emptying_none g member full was = record { heads = λ q i lt. absurd (omega arith); others = λ w. inr refl }
-
-pub emptying_more : (g : Graph) (member full was now after : ℕ → ℕ) (k : ℕ) → Emptying g member full was now k → PutBack g (member k) full now after → Emptying g member full was after (k + 1)
-emptying_more g member full was now after k emptying back = record {
-  heads = λ q i lt known e. head q i known e lt (cases_eq q k);
-  others = λ w. other w (back.others w) (emptying.others w);
-}
-  where
-    still : (w : ℕ) → now w ≡ full w → (after w ≡ full w) ⊎ (after w ≡ now w) → after w ≡ full w
-    still w e (inl f) = f
-    still w e (inr f) = f ∙ e
-
-    head : (q i : ℕ) → i < g.links → g.tail i ≡ member q → q < k + 1 → (q ≡ k) ⊎ (q ≡ k → ⊥) → after (g.head i) ≡ full (g.head i)
-    head q i known e lt (inl same) = back.heads i known (e ∙ ap member same)
-    head q i known e lt (inr ne) = still (g.head i) (emptying.heads q i (omega arith) known e) (back.others (g.head i))
-
-    other : (w : ℕ) → (after w ≡ full w) ⊎ (after w ≡ now w) → (now w ≡ full w) ⊎ (now w ≡ was w) → (after w ≡ full w) ⊎ (after w ≡ was w)
-    other w (inl e) h = inl e
-    other w (inr e) (inl f) = inl (e ∙ f)
-    other w (inr e) (inr f) = inr (e ∙ f)
 
 -- A counter that nothing counted down is full.
 pub emptying_all : (g : Graph) (member full was now : ℕ → ℕ) (len : ℕ) → Full g full → Pending g was (Before g member len) → Emptying g member full was now len → Full g now

@@ -1,6 +1,7 @@
 -- The order list, written one structure after the other in the order of their triggers.
-use Rattle.std.proofs.Common.{◌≡◌, ℕ, ◌+◌, ◌-◌, ◌<◌, ◌≤◌, Bool, true, cond, not, ltb, ◌≢◌, ◌⊎◌, List, length, set, sym, refl, ap, ◌∙◌, subst, inl, inr, arith, get_or-set_other, get_or-set_same}
+use Rattle.std.proofs.Common.{◌≡◌, ℕ, ◌+◌, ◌-◌, ◌<◌, ◌≤◌, Bool, true, cond, not, ltb, ◌≢◌, ◌⊎◌, List, length, take, drop, set, sym, ap, ◌∙◌, subst, inl, inr, arith, get_or-set_other, get_or-set_same}
 use Rattle.std.proofs.lemmas.Bool.{cases_eq, cases_lt, cond-true, cond-false, lt-ltb, le-ltb, eqb-false, eq-eqb, ne_eqb, not-true, not_from_false}
+use Rattle.std.proofs.lemmas.List.{length-take, length-drop, get_or-take, get_or-drop}
 use Rattle.structures.specs.Graphs.{Graph, Within, Approach}
 use Rattle.structures.specs.Rivals.{Among}
 use Rattle.structures.specs.Computed.{count, trigger}
@@ -11,13 +12,10 @@ use Rattle.structures.proofs.Triggers.{own_trigger, triggers_count, trigger_cand
 use Rattle.division.specs.Lists.{at}
 use Rattle.division.specs.Growing.{Grown}
 use Rattle.division.specs.Laying.{Stretched}
-use Rattle.division.specs.Divided.{Inner, inner, OrderEntries}
+use Rattle.division.specs.declared.answer.Stretch.{Stretch}
+use Rattle.division.specs.Divided.{Inner, inner, stretch_at, OrderEntries}
 use Rattle.division.proofs.Counts.{count_split, count_next}
 use Rattle.division.proofs.Pigeon.{values, length_values, values_among, fewer, pigeon}
-
--- Writing one stretch.
-pub stretched_none : (member : ℕ → ℕ) (from : ℕ) (was : ℕ → ℕ) → Stretched member 1 from was was
-stretched_none member from was = record { members = λ q i pos lt e. absurd (omega arith); earlier = λ i lt. refl; later = λ i le. refl }
 
 pub stretched_more : (member : ℕ → ℕ) (q from : ℕ) (was : ℕ → ℕ) (order : List ℕ) → 0 < q → from + q - 1 < length order → Stretched member q from was (at order) →
     Stretched member (q + 1) from was (at (set order (from + q - 1) (member q)))
@@ -39,6 +37,26 @@ stretched_more member q from was order pos within before = record {
         ap (at after) here ∙ get_or-set_same order (from + q - 1) (member q) 0 within ∙ ap member (sym same)
     one r i posr lt e (inr ne) = other i (omega arith) ∙ before.members r i posr (omega arith) e
 
+-- the members but the first
+abbrev pub rest : List ℕ → List ℕ
+rest xs = take (length xs - 1) (drop 1 xs)
+
+pub length_rest : (xs : List ℕ) → length (rest xs) ≡ length xs - 1
+length_rest xs = omega (arith, length-take (length xs - 1) (drop 1 xs), length-drop 1 xs)
+
+pub at_rest : (xs : List ℕ) (q : ℕ) → q < length (rest xs) → at (rest xs) q ≡ at xs (1 + q)
+at_rest xs q lt = get_or-take (length xs - 1) (drop 1 xs) q 0 (omega (arith, length_rest xs)) ∙ get_or-drop 1 xs q 0
+
+-- one turn of the loop over the members but the first
+pub stretched_turn : (members : List ℕ) (q from : ℕ) (was : ℕ → ℕ) (order : List ℕ) → from + q < length order → Stretched (at members) (q + 1) from was (at order) →
+    Stretched (at members) (q + 1 + 1) from was (at (set order (from + q) (at members (1 + q))))
+stretched_turn members q from was order within before =
+    let place : from + (q + 1) - 1 ≡ from + q = omega arith in
+    let index : q + 1 ≡ 1 + q = omega arith in
+    subst (λ x. Stretched (at members) (q + 1 + 1) from was (at (set order x (at members (1 + q))))) place
+    (subst (λ x. Stretched (at members) (q + 1 + 1) from was (at (set order (from + (q + 1) - 1) (at members x)))) index
+    (stretched_more (at members) (q + 1) from was order (omega arith) (omega arith) before))
+
 -- The order list when the structures of the triggers below p are written, up to position next.
 pub record Laid (g : Graph) (was order begins ends : ℕ → ℕ) (next p : ℕ) : Type 0 where
   pub inner_only : (i : ℕ) → i < next → Inner g (order i) × (trigger g (order i) < p)
@@ -48,17 +66,6 @@ pub record Laid (g : Graph) (was order begins ends : ℕ → ℕ) (next p : ℕ)
   pub stretch_only : (t i : ℕ) → t < p → trigger g t ≡ t → begins t ≤ i → i < ends t → (i < next) × (trigger g (order i) ≡ t)
   pub stretch_all : (t i : ℕ) → t < p → trigger g t ≡ t → i < next → trigger g (order i) ≡ t → (begins t ≤ i) × (i < ends t)
   pub kept : (i : ℕ) → next ≤ i → order i ≡ was i
-
-pub laid_none : (g : Graph) (was begins ends : ℕ → ℕ) → Laid g was was begins ends 0 0
-laid_none g was begins ends = record {
-  inner_only = λ i lt. absurd (omega arith);
-  complete = λ x n lt. absurd (omega arith);
-  once = λ i j lt. absurd (omega arith);
-  forward = λ i j lt. absurd (omega arith);
-  stretch_only = λ t i lt. absurd (omega arith);
-  stretch_all = λ t i lt. absurd (omega arith);
-  kept = λ i le. refl;
-}
 
 module _ (g : Graph) (within : Within g) where
   -- what a trigger holds has that trigger
@@ -253,8 +260,15 @@ module _ (g : Graph) (within : Within g) where
         subst (λ y. Among y (values order next)) s.2 (values_among order next s.0 s.1)) in
         omega (arith, length_values order next, length_chosen no_trigger g.places, count_split (own_trigger g) g.places, triggers_count g)
 
-pub laid_all : (g : Graph) → Within g → (was order begins ends : List ℕ) (next : ℕ) → Laid g (at was) (at order) (at begins) (at ends) next g.places → OrderEntries g was order begins ends
-laid_all g within was order begins ends next laid = record {
+-- where each stretch begins and ends
+abbrev pub begins : List Stretch → ℕ → ℕ
+begins stretches t = (stretch_at stretches t).begin
+
+abbrev pub ends : List Stretch → ℕ → ℕ
+ends stretches t = (stretch_at stretches t).end
+
+pub laid_all : (g : Graph) → Within g → (was order : List ℕ) (stretches : List Stretch) (next : ℕ) → Laid g (at was) (at order) (begins stretches) (ends stretches) next g.places → OrderEntries g was order stretches
+laid_all g within was order stretches next laid = record {
   inner_only = λ i lt. (laid.inner_only i (to i lt)).0;
   complete = λ p n. let s = laid.complete p n (trigger_candidate g within p n.0).0 in (s.0, back s.0 s.1, s.2);
   once = λ i j a b. laid.once i j (to i a) (to j b);
@@ -265,7 +279,7 @@ laid_all g within was order begins ends next laid = record {
 }
   where
     same : next ≡ inner g
-    same = laid_count g within (at was) (at order) (at begins) (at ends) next laid
+    same = laid_count g within (at was) (at order) (begins stretches) (ends stretches) next laid
 
     to : (i : ℕ) → i < inner g → i < next
     to i lt = omega (arith, same)
@@ -273,28 +287,34 @@ laid_all g within was order begins ends next laid = record {
     back : (i : ℕ) → i < next → i < inner g
     back i lt = omega (arith, same)
 
--- the loop over the members ends with the last
-pub stretched_end : (member : ℕ → ℕ) (q len from : ℕ) (was now : ℕ → ℕ) → q ≡ len → Stretched member q from was now → Stretched member len from was now
-stretched_end member q len from was now e before = subst (λ x. Stretched member x from was now) e before
-
 -- One turn of the loop over the places, on the lists themselves.
-module _ (g : Graph) (within : Within g) (small : g.places ≤ 2048) (was : ℕ → ℕ) (order begins ends : List ℕ) (next p : ℕ) (here : p < g.places)
-    (laid : Laid g was (at order) (at begins) (at ends) next p) where
-  module _ (own : trigger g p ≡ p) (member : ℕ → ℕ) (len : ℕ) (grown : Grown g p member len) (after : List ℕ) (stretched : Stretched member len next (at order) (at after))
-      (wide : length begins ≡ 2048) (broad : length ends ≡ 2048) where
-    pub turn_lays : Laid g was (at after) (at (set begins p next)) (at (set ends p (next + (len - 1)))) (next + (len - 1)) (p + 1)
-    turn_lays = laid_more g within was (at order) (at begins) (at ends) next p here laid own member len grown (at after) stretched
-        (at (set begins p next)) (at (set ends p (next + (len - 1))))
-        (get_or-set_same begins p next 0 (omega arith)) (get_or-set_same ends p (next + (len - 1)) 0 (omega arith))
-        (λ t ne. get_or-set_other begins p t next 0 ne) (λ t ne. get_or-set_other ends p t (next + (len - 1)) 0 ne)
+pub turn_lays : (g : Graph) (within : Within g) (was : ℕ → ℕ) (order : List ℕ) (stretches : List Stretch) (next p : ℕ) (here : p < g.places) →
+    Laid g was (at order) (begins stretches) (ends stretches) next p → trigger g p ≡ p → (member : ℕ → ℕ) (len : ℕ) → Grown g p member len → (after : List ℕ) → Stretched member len next (at order) (at after) →
+    p < length stretches → (end : ℕ) → end ≡ next + (len - 1) →
+    Laid g was (at after) (begins (set stretches p (record { begin = next; end = end }))) (ends (set stretches p (record { begin = next; end = end }))) end (p + 1)
+turn_lays g within was order stretches next p here laid own member len grown after stretched room end e =
+    subst (λ x. Laid g was (at after) (begins more) (ends more) x (p + 1)) (sym e)
+    (laid_more g within was (at order) (begins stretches) (ends stretches) next p here laid own member len grown (at after) stretched
+    (begins more) (ends more) (ap (λ s. s.begin) new) (ap (λ s. s.end) new ∙ e) (λ t ne. ap (λ s. s.begin) (old t ne)) (λ t ne. ap (λ s. s.end) (old t ne)))
+  where
+    stretch : Stretch
+    stretch = record { begin = next; end = end }
 
-pub laid_same : (g : Graph) (was : ℕ → ℕ) (p : ℕ) (o o' b b' e e' : List ℕ) (n n' : ℕ) → o' ≡ o → b' ≡ b → e' ≡ e → n' ≡ n →
-    Laid g was (at o) (at b) (at e) n p → Laid g was (at o') (at b') (at e') n' p
-laid_same g was p o o' b b' e e' n n' oo bb ee nn laid =
-    subst (λ x. Laid g was (at x) (at b') (at e') n' p) (sym oo)
-    (subst (λ x. Laid g was (at o) (at x) (at e') n' p) (sym bb)
-    (subst (λ x. Laid g was (at o) (at b) (at x) n' p) (sym ee)
-    (subst (λ x. Laid g was (at o) (at b) (at e) x p) (sym nn) laid)))
+    more : List Stretch
+    more = set stretches p stretch
+
+    new : stretch_at more p ≡ stretch
+    new = get_or-set_same stretches p stretch _ room
+
+    old : (t : ℕ) → t ≢ p → stretch_at more t ≡ stretch_at stretches t
+    old t ne = get_or-set_other stretches p t stretch _ ne
+
+pub laid_same : (g : Graph) (was : ℕ → ℕ) (p : ℕ) (o o' : List ℕ) (s s' : List Stretch) (n n' : ℕ) → o' ≡ o → s' ≡ s → n' ≡ n →
+    Laid g was (at o) (begins s) (ends s) n p → Laid g was (at o') (begins s') (ends s') n' p
+laid_same g was p o o' s s' n n' oo ss nn laid =
+    subst (λ x. Laid g was (at x) (begins s') (ends s') n' p) (sym oo)
+    (subst (λ x. Laid g was (at o) (begins x) (ends x) n' p) (sym ss)
+    (subst (λ x. Laid g was (at o) (begins s) (ends s) x p) (sym nn) laid))
 
 -- Counting the triggers.
 pub own_more : (g : Graph) (t n : ℕ) → n ≡ count (own_trigger g) t → trigger g t ≡ t → n + 1 ≡ count (own_trigger g) (t + 1)

@@ -1,27 +1,33 @@
 -- The links of member k, from the first position of its part to the last.
-use Rattle.std.proofs.Common.{◌≡◌, ℕ, ◌+◌, ◌-◌, ◌<◌, ◌≤◌, cond, eqb, ◌≢◌, ◌⊎◌, List, length, set, sym, refl, ap, ◌∙◌, subst, inl, inr, arith, get_or-set_other, get_or-set_same}
+use Rattle.std.proofs.Common.{◌≡◌, ℕ, ◌+◌, ◌-◌, ◌<◌, ◌≤◌, cond, eqb, ◌≢◌, ◌⊎◌, List, [], ◌∷◌, ◌++◌, length, set, slice_range, slice_index_or, sym, refl, ap, ◌∙◌, subst, inl, inr, arith, get_or-set_other, get_or-set_same}
+use Rattle.std.proofs.Math.ListN.{length-append}
 use Rattle.std.proofs.lemmas.Bool.{cases_eq, cond-true, cond-false, eq-eqb, ne_eqb}
 use Rattle.network.specs.declared.network.Network.{Network}
+use Rattle.network.specs.declared.link.OpenLink.{OpenLink}
+use Rattle.network.specs.Links.{blank}
 use Rattle.network.specs.Packed.{graph_of}
+use Rattle.network.proofs.Leaving.{leaving_head, leaving_position, leaving_small}
 use Rattle.structures.proofs.Held.{held_place}
 use Rattle.division.specs.Lists.{at}
-use Rattle.division.specs.Keeping.{Packed}
 use Rattle.division.specs.Growing.{Member, Before, Partly, Growing}
-use Rattle.division.proofs.Parts.{packed_within, part_known, part_tail, tail_part}
+use Rattle.network.proofs.Parts.{within, part_known, part_tail, tail_part}
+use Rattle.division.proofs.Pushes.{at_push, at_push_other}
 use Rattle.division.proofs.Follow.{Too, growing_like, growing_passes, growing_joins, link_counted}
 
 -- The growth while the links of member k are followed: the members before are as they were.
-pub record Following (n : Network) (v k : ℕ) (was : ℕ → ℕ) (joined : ℕ) (member left : ℕ → ℕ) (len j : ℕ) : Type 0 where
-  pub packed : Packed n
+pub record Following (n : Network) (v k u : ℕ) (was : ℕ → ℕ) (joined : ℕ) (member left : ℕ → ℕ) (len j : ℕ) : Type 0 where
+  pub same : u ≡ was k
+  pub here : u < n.places
   pub below : k < joined
   pub growing : Growing (graph_of n) v member left len (Partly (graph_of n) was k j)
   pub longer : joined ≤ len
   pub kept : (q : ℕ) → q < joined → member q ≡ was q
 
-module _ {n : Network} {v k : ℕ} {was : ℕ → ℕ} {joined : ℕ} where
-  pub following_none : {left : ℕ → ℕ} {j : ℕ} → Packed n → k < joined → j ≡ at n.first (was k) → Growing (graph_of n) v was left joined (Before (graph_of n) was k) → Following n v k was joined was left joined j
-  following_none {left} {j} packed below e growing = record {
-    packed = packed;
+module _ {n : Network} {v k u : ℕ} {was : ℕ → ℕ} {joined : ℕ} where
+  pub following_none : {left : ℕ → ℕ} {j : ℕ} → u ≡ was k → k < joined → j ≡ at n.first u → Growing (graph_of n) v was left joined (Before (graph_of n) was k) → Following n v k u was joined was left joined j
+  following_none {left} {j} same below e growing = record {
+    same = same;
+    here = subst (λ x. x < n.places) (sym same) (held_place (graph_of n) (within n) growing.known (growing.only k below));
     below = below;
     growing = growing_like (graph_of n) v was left joined (Before (graph_of n) was k) (Partly (graph_of n) was k j) (λ i lt. (λ b. inl b, back i lt)) growing;
     longer = omega arith;
@@ -30,25 +36,18 @@ module _ {n : Network} {v k : ℕ} {was : ℕ → ℕ} {joined : ℕ} where
     where
       back : (i : ℕ) → i < (graph_of n).links → Partly (graph_of n) was k j i → Before (graph_of n) was k i
       back i lt (inl b) = b
-      back i lt (inr s) = absurd (omega (arith, (tail_part n packed (was k) i lt s.0).0, s.1, e))
+      back i lt (inr s) = absurd (omega (arith, (tail_part n (was k) i lt s.0).0, s.1, e, ap (at n.first) same))
 
-  module _ {member left : ℕ → ℕ} {len i : ℕ} (following : Following n v k was joined member left len i)
-      (low : at n.first (was k) ≤ i) (high : i < at n.first (was k + 1)) where
-    packed : Packed n
-    packed = following.packed
-
+  module _ {member left : ℕ → ℕ} {len i : ℕ} (following : Following n v k u was joined member left len i)
+      (low : at n.first u ≤ i) (high : i < at n.first (u + 1)) where
     below : k < joined
     below = following.below
 
-    here : was k < n.places
-    here = subst (λ x. x < n.places) (following.kept k below)
-        (held_place (graph_of n) (packed_within n packed) following.growing.known (following.growing.only k (omega (arith, following.longer))))
-
     pub link_known : i < (graph_of n).links
-    link_known = part_known n packed (was k) i here high
+    link_known = part_known n u i following.here high
 
     leaves : (graph_of n).tail i ≡ was k
-    leaves = part_tail n packed (was k) i here low high
+    leaves = part_tail n u i following.here low high ∙ following.same
 
     tail : Member member len ((graph_of n).tail i)
     tail = (k, omega (arith, following.longer), following.kept k below ∙ sym leaves)
@@ -78,18 +77,19 @@ module _ {n : Network} {v k : ℕ} {was : ℕ → ℕ} {joined : ℕ} where
 
     -- the place that the link leads to, and the links left to it
     pub link_place : (graph_of n).head i < n.places
-    link_place = (packed_within n packed i link_known refl).1
+    link_place = (within n i link_known refl).1
 
     pub link_left : 0 < left ((graph_of n).head i)
-    link_left = link_counted (graph_of n) (packed_within n packed) (λ x. refl) left left (Partly (graph_of n) was k i) following.growing.pending i link_known fresh
+    link_left = link_counted (graph_of n) (within n) (λ x. refl) left left (Partly (graph_of n) was k i) following.growing.pending i link_known fresh
 
     module _ (after : ℕ → ℕ) (less : after ((graph_of n).head i) ≡ left ((graph_of n).head i) - 1) (same : (z : ℕ) → z ≢ (graph_of n).head i → after z ≡ left z) where
-      pub following_passes : (after ((graph_of n).head i) ≡ 0 → (graph_of n).head i ≢ v → ⊥) → Following n v k was joined member after len (i + 1)
+      pub following_passes : (after ((graph_of n).head i) ≡ 0 → (graph_of n).head i ≢ v → ⊥) → Following n v k u was joined member after len (i + 1)
       following_passes stays = record {
-        packed = packed;
+        same = following.same;
+        here = following.here;
         below = below;
         growing = growing_like (graph_of n) v member after len (Too (Partly (graph_of n) was k i) i) (Partly (graph_of n) was k (i + 1)) more_like
-            (growing_passes (graph_of n) (packed_within n packed) (λ x. refl) v member left after len (Partly (graph_of n) was k i) following.growing i link_known fresh tail less same stays);
+            (growing_passes (graph_of n) (within n) (λ x. refl) v member left after len (Partly (graph_of n) was k i) following.growing i link_known fresh tail less same stays);
         longer = following.longer;
         kept = following.kept;
       }
@@ -97,7 +97,7 @@ module _ {n : Network} {v k : ℕ} {was : ℕ → ℕ} {joined : ℕ} where
       module _ (none : after ((graph_of n).head i) ≡ 0) (ne : (graph_of n).head i ≢ v) where
         grows : (more : ℕ → ℕ) → more len ≡ (graph_of n).head i → ((q : ℕ) → q ≢ len → more q ≡ member q) → Growing (graph_of n) v more after (len + 1) (Partly (graph_of n) was k (i + 1))
         grows more at_len kept = growing_like (graph_of n) v more after (len + 1) (Too (Partly (graph_of n) was k i) i) (Partly (graph_of n) was k (i + 1)) more_like
-            (growing_joins (graph_of n) (packed_within n packed) (λ x. refl) v member left after len (Partly (graph_of n) was k i) following.growing i link_known fresh tail less same none ne more at_len kept)
+            (growing_joins (graph_of n) (within n) (λ x. refl) v member left after len (Partly (graph_of n) was k i) following.growing i link_known fresh tail less same none ne more at_len kept)
 
         -- there is room for one more
         pub following_room : len < n.places
@@ -109,9 +109,10 @@ module _ {n : Network} {v k : ℕ} {was : ℕ → ℕ} {joined : ℕ} where
                   (λ q apart. cond-false (eqb q len) ((graph_of n).head i) (member q) (ne_eqb q len apart))).short,
             )
 
-        pub following_joins : (more : ℕ → ℕ) → more len ≡ (graph_of n).head i → ((q : ℕ) → q ≢ len → more q ≡ member q) → Following n v k was joined more after (len + 1) (i + 1)
+        pub following_joins : (more : ℕ → ℕ) → more len ≡ (graph_of n).head i → ((q : ℕ) → q ≢ len → more q ≡ member q) → Following n v k u was joined more after (len + 1) (i + 1)
         following_joins more at_len kept = record {
-          packed = packed;
+          same = following.same;
+          here = following.here;
           below = below;
           growing = grows more at_len kept;
           longer = omega (arith, following.longer);
@@ -119,7 +120,7 @@ module _ {n : Network} {v k : ℕ} {was : ℕ → ℕ} {joined : ℕ} where
         }
 
   -- all links of member k are done
-  pub following_all : {member left : ℕ → ℕ} {len j : ℕ} → Following n v k was joined member left len j → at n.first (was k + 1) ≤ j →
+  pub following_all : {member left : ℕ → ℕ} {len j : ℕ} → Following n v k u was joined member left len j → at n.first (u + 1) ≤ j →
       Growing (graph_of n) v member left len (Before (graph_of n) member (k + 1))
   following_all {member} {left} {len} {j} following past =
       growing_like (graph_of n) v member left len (Partly (graph_of n) was k j) (Before (graph_of n) member (k + 1)) (λ i lt. (to i, back i lt)) following.growing
@@ -137,37 +138,61 @@ module _ {n : Network} {v k : ℕ} {was : ℕ → ℕ} {joined : ℕ} where
           go : (b.0 ≡ k) ⊎ (b.0 ≡ k → ⊥) → Partly (graph_of n) was k j i
           go (inl e) =
               let out : (graph_of n).tail i ≡ was k = sym same ∙ ap was e in
-              inr (out, omega (arith, (tail_part n following.packed (was k) i lt out).1))
+              inr (out, omega (arith, (tail_part n u i lt (out ∙ sym following.same)).1))
           go (inr ne) = inl (b.0, omega (arith, b.1), same)
 
--- One turn of the loop over the links of member k, on the lists themselves.
-module _ {n : Network} {v k : ℕ} {was : ℕ → ℕ} {joined len i : ℕ} (members left : List ℕ) (following : Following n v k was joined (at members) (at left) len i)
-    (low : at n.first (was k) ≤ i) (high : i < at n.first (was k + 1)) (long : length left ≡ 2048) where
-  abbrev head : ℕ
-  head = at n.heads i
+-- One turn of the loop over the links that leave u, which is member k, on the lists themselves.
+module _ {n : Network} {v k u : ℕ} {was : ℕ → ℕ} {joined j : ℕ}
+    {items : List OpenLink} (e : items ≡ slice_range n.links (at n.first u) (at n.first (u + 1))) (lt : j < length items)
+    (members left : List ℕ) (following : Following n v k u was joined (at members) (at left) (length members) (at n.first u + j)) (long : length left ≡ 2048) where
+  abbrev w : ℕ
+  w = (slice_index_or items j blank).head
+
+  head : w ≡ (graph_of n).head (at n.first u + j)
+  head = leaving_head n u following.here items e j lt
+
+  low : at n.first u ≤ at n.first u + j
+  low = omega arith
+
+  high : at n.first u + j < at n.first (u + 1)
+  high = leaving_position n u following.here items e j lt
 
   abbrev lowered : List ℕ
-  lowered = set left head (at left head - 1)
+  lowered = set left w (at left w - 1)
 
-  lowered_head : at lowered head ≡ at left head - 1
-  lowered_head = get_or-set_same left head (at left head - 1) 0 (omega (arith, link_place following low high, following.packed.sized))
+  lowered_head : at lowered ((graph_of n).head (at n.first u + j)) ≡ at left ((graph_of n).head (at n.first u + j)) - 1
+  lowered_head = subst (λ x. at lowered x ≡ at left x - 1) head (get_or-set_same left w (at left w - 1) 0 (omega (arith, leaving_small n u following.here items e j lt)))
 
-  lowered_other : (z : ℕ) → z ≢ head → at lowered z ≡ at left z
-  lowered_other z ne = get_or-set_other left head z (at left head - 1) 0 ne
+  lowered_other : (z : ℕ) → z ≢ (graph_of n).head (at n.first u + j) → at lowered z ≡ at left z
+  lowered_other z ne = get_or-set_other left w z (at left w - 1) 0 (λ f. ne (f ∙ head))
 
-  pub turn_passes : (same : List ℕ) (count : ℕ) → same ≡ members → count ≡ len → (at left head - 1 ≡ 0 → head ≢ v → ⊥) → Following n v k was joined (at same) (at lowered) count (i + 1)
-  turn_passes same count e f stays =
-      subst (λ xs. Following n v k was joined (at xs) (at lowered) count (i + 1)) (sym e)
-      (subst (λ c. Following n v k was joined (at members) (at lowered) c (i + 1)) (sym f)
-      (following_passes following low high (at lowered) lowered_head lowered_other (λ none. stays (sym lowered_head ∙ none))))
+  next : at n.first u + j + 1 ≡ at n.first u + (j + 1)
+  next = omega arith
 
-  module _ (none : at left head - 1 ≡ 0) (ne : head ≢ v) where
-    pub turn_room : len < 2048
-    turn_room = omega (arith, following_room following low high (at lowered) lowered_head lowered_other (lowered_head ∙ none) ne, following.packed.sized)
+  pub turn_small : w < 2048
+  turn_small = leaving_small n u following.here items e j lt
 
-    pub turn_joins : length members ≡ 2048 → (more : List ℕ) (count : ℕ) → more ≡ set members len head → count ≡ len + 1 → Following n v k was joined (at more) (at lowered) count (i + 1)
-    turn_joins wide more count e f =
-        subst (λ xs. Following n v k was joined (at xs) (at lowered) count (i + 1)) (sym e)
-        (subst (λ c. Following n v k was joined (at (set members len head)) (at lowered) c (i + 1)) (sym f)
-        (following_joins following low high (at lowered) lowered_head lowered_other (lowered_head ∙ none) ne (at (set members len head))
-        (get_or-set_same members len head 0 (omega (arith, turn_room))) (λ q apart. get_or-set_other members len q head 0 apart)))
+  pub turn_left : 1 ≤ at left w
+  turn_left = subst (λ x. 1 ≤ at left x) (sym head) (omega (arith, link_left following low high))
+
+  pub turn_passes : (at lowered w ≡ 0 → w ≢ v → ⊥) → Following n v k u was joined (at members) (at lowered) (length members) (at n.first u + (j + 1))
+  turn_passes stays = subst (Following n v k u was joined (at members) (at lowered) (length members)) next
+      (following_passes following low high (at lowered) lowered_head lowered_other (λ none ne. stays (ap (at lowered) head ∙ none) (λ f. ne (sym head ∙ f))))
+
+  module _ (none : at lowered w ≡ 0) (ne : w ≢ v) where
+    none_there : at lowered ((graph_of n).head (at n.first u + j)) ≡ 0
+    none_there = ap (at lowered) (sym head) ∙ none
+
+    pub turn_room : length members < 2048
+    turn_room = omega (arith, following_room following low high (at lowered) lowered_head lowered_other none_there (λ f. ne (head ∙ f)), n.sized)
+
+    pub turn_joins : Following n v k u was joined (at (members ++ w ∷ [])) (at lowered) (length (members ++ w ∷ [])) (at n.first u + (j + 1))
+    turn_joins = subst (λ x. Following n v k u was joined (at (members ++ w ∷ [])) (at lowered) x (at n.first u + (j + 1))) (sym (length-append members (w ∷ [])))
+        (subst (Following n v k u was joined (at (members ++ w ∷ [])) (at lowered) (length members + 1)) next
+        (following_joins following low high (at lowered) lowered_head lowered_other none_there (λ f. ne (head ∙ f)) (at (members ++ w ∷ []))
+        (at_push members w ∙ head) (at_push_other members w)))
+
+-- the same members under another name
+pub followed_same : {n : Network} {v k u : ℕ} {was : ℕ → ℕ} {joined : ℕ} {left : ℕ → ℕ} {j : ℕ} {members others : List ℕ} → others ≡ members →
+    Following n v k u was joined (at members) left (length members) j → Following n v k u was joined (at others) left (length others) j
+followed_same {n} {v} {k} {u} {was} {joined} {left} {j} e following = subst (λ xs. Following n v k u was joined (at xs) left (length xs) j) (sym e) following

@@ -1,9 +1,9 @@
 pub mod Lists
 pub mod Refusals
 pub mod Divided
-pub mod Keeping
 pub mod Growing
 pub mod Working
 pub mod Covering
 pub mod Twinned
+pub mod Ringing
 pub mod Laying

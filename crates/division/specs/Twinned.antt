@@ -1,5 +1,5 @@
 -- Finding the lowest place whose complete structure is that of u.
-use Rattle.std.specs.Prelude.{◌≡◌, ℕ, ◌<◌, ◌≤◌, ◌≢◌, ◌⊎◌}
+use Rattle.std.specs.Prelude.{◌≡◌, ℕ, ◌<◌, ◌≤◌, ◌≢◌, ◌⊎◌, Option, Some}
 use Rattle.structures.specs.Graphs.{Graph}
 use Rattle.structures.proofs.Maximal.{Twins}
 use Rattle.structures.proofs.Twins.{Back, Past}
@@ -39,5 +39,5 @@ pub record LowestTwin (g : Graph) (u t : ℕ) : Type 0 where
   pub lowest : (x : ℕ) → Twins g u x → t ≤ x
 
 -- Each owner below a place has the lowest twin for its name.
-abbrev pub Named : Graph → (owner name : ℕ → ℕ) → ℕ → Type 0
-Named g owner name p = (u : ℕ) → u < p → owner u ≡ u → LowestTwin g u (name u)
+abbrev pub Named : Graph → (ℕ → Option ℕ) → (ℕ → ℕ) → ℕ → Type 0
+Named g owner name p = (u : ℕ) → u < p → owner u ≡ Some u → LowestTwin g u (name u)

@@ -2,7 +2,7 @@ ghost use Rattle.network.specs.Packed.{graph_of};
 ghost use Rattle.division.specs.Divided.{Divided};
 
 use super::answer::{Division, ListLength};
-use super::counters::count_approaches;
+use super::growth::Grower;
 use super::layout::{count_triggers, lay_out};
 use super::lowest::name_triggers;
 use network::network::Network;
@@ -19,17 +19,10 @@ pub fn divide(
     if triggers.len() != net.places || order.len() != net.places {
         return Err(ListLength);
     }
-    let full = count_approaches(net);
-    let mut left = full;
-    let mut members = [0u16; 2048];
-    name_triggers(net, &full, &mut left, &mut members, triggers);
-    let count = count_triggers(net, triggers);
-    let stretches = lay_out(net, triggers, &full, &mut left, &mut members, order);
-    let begins = stretches.begins;
-    let ends = stretches.ends;
+    let mut grower = Grower::new(net);
+    name_triggers(&mut grower, triggers);
     Ok(Division {
-        count,
-        begins,
-        ends,
+        count: count_triggers(net, triggers),
+        stretches: lay_out(&mut grower, triggers, order),
     })
 }

@@ -1,120 +1,115 @@
-ghost use Rattle.std.specs.Prelude.{ℕ, ◌+◌, ◌<◌, ◌≤◌, MatchBool};
+ghost use Rattle.std.specs.Prelude.{◌≡◌, ℕ, ◌+◌, ◌<◌, ◌≤◌, MatchBool, length};
+ghost use Rattle.arrayvec.specs.ArrayVec.{array_vec_len};
 ghost use Rattle.network.specs.Packed.{graph_of};
 ghost use Rattle.division.specs.Lists.{at};
-ghost use Rattle.division.specs.Keeping.{Packed};
 ghost use Rattle.division.specs.Growing.{Before, Pending, Growing, Grown, Full, PutBack, Closed, Alone};
 
+use super::counters::count_approaches;
+use arrayvec::ArrayVec;
 use network::network::Network;
 
-// Follows the links that leave member k; a place other than v to which no link is left joins. The new number of members.
+// Grows structures in a network. Between two growths each place has as many links left to follow as lead to it.
+#[derive(Drop)]
+pub struct Grower<'n> {
+    pub net: &'n Network,
+    pub approaches: [u16; 2048],
+    pub left: [u16; 2048],
+    pub members: ArrayVec<u16, 2048>,
+    ghost counted: { Full (graph_of net.now) (at approaches) },
+    ghost untouched: { Full (graph_of net.now) (at left) },
+}
+
+// Follows the links that leave member k; a place other than v to which no link is left joins.
 fn follow(
     net: &Network,
     v: usize,
     k: usize,
     left: &mut [u16; 2048],
-    members: &mut [u16; 2048],
-    joined: usize,
-) -> usize
-    requires packed { Packed net.now }
-    requires before { k < joined }
-    requires growing { Growing (graph_of net.now) v (at members.old) (at left.old) joined (Before (graph_of net.now) (at members.old) k) }
-    ensures longer { joined ≤ result }
-    ensures growing { Growing (graph_of net.now) v (at members.new) (at left.new) result (Before (graph_of net.now) (at members.new) (k + 1)) }
+    members: &mut ArrayVec<u16, 2048>,
+)
+    requires before { k < array_vec_len members.old }
+    requires growing { Growing (graph_of net.now) v (at members.old.items) (at left.old) (array_vec_len members.old) (Before (graph_of net.now) (at members.old.items) k) }
+    ensures longer { array_vec_len members.old ≤ array_vec_len members.new }
+    ensures growing { Growing (graph_of net.now) v (at members.new.items) (at left.new) (array_vec_len members.new) (Before (graph_of net.now) (at members.new.items) (k + 1)) }
 {
-    let mut len = joined;
-    let u = members[k] as usize;
-    let first = net.first[u] as usize;
-    let end = net.first[u + 1] as usize;
-    for i in first..end {
-        let head = net.heads[i];
-        let w = head as usize;
-        let rest = left[w] - 1;
-        left[w] = rest;
-        if rest == 0 && w != v {
-            members[len] = head;
-            len += 1;
+    let u = members.as_slice()[k] as usize;
+    for link in net.leaving(u) {
+        let w = link.head as usize;
+        left[w] -= 1;
+        if left[w] == 0 && w != v {
+            members.push(link.head);
         }
     }
-    len
 }
 
 // All members of v's structure, v first; every link that leaves one is counted down.
-fn spread(net: &Network, v: usize, left: &mut [u16; 2048], members: &mut [u16; 2048]) -> usize
-    requires packed { Packed net.now }
+fn spread(net: &Network, v: usize, left: &mut [u16; 2048], members: &mut ArrayVec<u16, 2048>)
     requires place { v < net.now.places }
     requires full { Full (graph_of net.now) (at left.old) }
-    ensures { Growing (graph_of net.now) v (at members.new) (at left.new) result (Before (graph_of net.now) (at members.new) result) }
+    ensures { Growing (graph_of net.now) v (at members.new.items) (at left.new) (array_vec_len members.new) (Before (graph_of net.now) (at members.new.items) (array_vec_len members.new)) }
 {
-    members[0] = v as u16;
-    let mut len = 1;
+    members.clear();
+    members.push(v as u16);
+    // No `for`: the list grows while it is gone through.
     let mut k = 0;
-    while k < len {
-        len = follow(net, v, k, left, members, len);
+    while k < members.len() {
+        follow(net, v, k, left, members);
         k += 1;
     }
-    len
 }
 
 // Puts the counters of the places back that u's links lead to.
 fn put_back_heads(net: &Network, u: usize, full: &[u16; 2048], left: &mut [u16; 2048])
-    requires packed { Packed net.now }
-    requires place { u < net.now.places }
+    requires { u < net.now.places }
     ensures { PutBack (graph_of net.now) u (at full.now) (at left.old) (at left.new) }
 {
-    let first = net.first[u] as usize;
-    let end = net.first[u + 1] as usize;
-    for i in first..end {
-        let w = net.heads[i] as usize;
+    for link in net.leaving(u) {
+        let w = link.head as usize;
         left[w] = full[w];
     }
 }
 
 // Puts every counter back that a growth counted down.
-fn put_back(
-    net: &Network,
-    members: &[u16; 2048],
-    len: usize,
-    full: &[u16; 2048],
-    left: &mut [u16; 2048],
-)
-    requires packed { Packed net.now }
-    requires short { len ≤ net.now.places }
-    requires places { (q : ℕ) → q < len → at members.now q < net.now.places }
+fn put_back(net: &Network, members: &[u16], full: &[u16; 2048], left: &mut [u16; 2048])
+    requires places { (q : ℕ) → q < length members.now → at members.now q < net.now.places }
     requires full { Full (graph_of net.now) (at full.now) }
-    requires pending { Pending (graph_of net.now) (at left.old) (Before (graph_of net.now) (at members.now) len) }
+    requires pending { Pending (graph_of net.now) (at left.old) (Before (graph_of net.now) (at members.now) (length members.now)) }
     ensures { Full (graph_of net.now) (at left.new) }
 {
-    for k in 0..len {
-        let u = members[k] as usize;
-        put_back_heads(net, u, full, left);
+    for member in members {
+        put_back_heads(net, *member as usize, full, left);
     }
 }
 
-// What grew from a place: how many members, and whether the place is approached, from among them only.
-#[derive(Clone, Copy)]
-pub struct Growth {
-    pub len: usize,
-    pub closed: bool,
-}
+impl<'n> Grower<'n> {
+    // No structure is grown yet.
+    pub fn new(net: &'n Network) -> Grower<'n>
+        ensures { result.net ≡ net.entry }
+    {
+        let approaches = count_approaches(net);
+        Grower {
+            net,
+            approaches,
+            left: approaches,
+            members: ArrayVec::new(),
+        }
+    }
 
-// Grows the complete structure of v into the list of members. The counters are as before afterwards.
-pub fn grow(
-    net: &Network,
-    v: usize,
-    full: &[u16; 2048],
-    left: &mut [u16; 2048],
-    members: &mut [u16; 2048],
-) -> Growth
-    requires packed { Packed net.now }
-    requires place { v < net.now.places }
-    requires full { Full (graph_of net.now) (at full.now) }
-    requires left { Full (graph_of net.now) (at left.old) }
-    ensures grown { Grown (graph_of net.now) v (at members.new) result.len }
-    ensures left { Full (graph_of net.now) (at left.new) }
-    ensures closed { MatchBool result.closed (Closed (graph_of net.now) v) (Alone (graph_of net.now) v) }
-{
-    let len = spread(net, v, left, members);
-    let closed = full[v] > 0 && left[v] == 0;
-    put_back(net, members, len, full, left);
-    Growth { len, closed }
+    // Grows the complete structure of v into the members. Says whether v is approached, from among them only.
+    pub fn grow(&mut self, v: usize) -> bool
+        requires { v < self.old.net.now.places }
+        ensures net { self.new.net ≡ self.old.net }
+        ensures grown { Grown (graph_of self.old.net.now) v (at self.new.members.items) (array_vec_len self.new.members) }
+        ensures closed { MatchBool result (Closed (graph_of self.old.net.now) v) (Alone (graph_of self.old.net.now) v) }
+    {
+        spread(self.net, v, &mut self.left, &mut self.members);
+        let closed = self.approaches[v] > 0 && self.left[v] == 0;
+        put_back(
+            self.net,
+            self.members.as_slice(),
+            &self.approaches,
+            &mut self.left,
+        );
+        closed
+    }
 }

@@ -1,117 +1,103 @@
-ghost use Rattle.std.specs.Prelude.{◌≡◌, ℕ, ◌<◌};
-ghost use Rattle.division.specs.Keeping.{Packed};
-ghost use Rattle.division.specs.Working.{Walking};
+ghost use Rattle.std.specs.Prelude.{◌≡◌, ◌<◌, All};
 
-use super::cover::NOBODY;
+use arrayvec::ArrayVec;
 use network::network::Network;
 
-// A depth-first walk over the places that have no owner. A place that it leaves joins the list `post`. Each turn follows
-// a link or leaves a place, and no link or place has two, so the turns suffice.
-#[derive(Clone, Copy)]
-pub struct Walk {
-    stack: [u16; 2048],
-    depth: usize,
-    seen: [bool; 2048],
-    link: [u16; 2048],
-    pub post: [u16; 2048],
-    pub count: usize,
-    turns: usize,
+// A depth-first walk over the places that have no owner. Of each place that it has met it knows how many of its links it
+// has followed. A place that it leaves joins the list `left`.
+#[derive(Drop)]
+pub struct Walk<'n> {
+    net: &'n Network,
+    stack: ArrayVec<u16, 2048>,
+    followed: [Option<u16>; 2048],
+    pub left: ArrayVec<u16, 2048>,
+    ghost entered: { All (λ p. p < net.now.places) stack.items },
+    ghost left_are: { All (λ p. p < net.now.places) left.items },
 }
 
-impl Walk {
-    fn new(turns: usize) -> Walk
-        ensures { (p : ℕ) → Walking p result }
+impl<'n> Walk<'n> {
+    fn new(net: &'n Network) -> Walk<'n>
+        ensures { result.net ≡ net.entry }
     {
         Walk {
-            stack: [0; 2048],
-            depth: 0,
-            seen: [false; 2048],
-            link: [0; 2048],
-            post: [0; 2048],
-            count: 0,
-            turns,
+            net,
+            stack: ArrayVec::new(),
+            followed: [None; 2048],
+            left: ArrayVec::new(),
         }
     }
 
-    // Steps onto a place.
-    fn enter(&mut self, net: &Network, w: u16)
-        requires packed { Packed net.now }
-        requires known { w < net.now.places }
-        requires walking { Walking net.now.places self.old }
-        ensures turns { self.new.turns ≡ self.old.turns }
-        ensures walking { Walking net.now.places self.new }
+    // Whether a place has no owner and was not met before.
+    fn is_new(&self, owners: &[Option<u16>; 2048], place: u16) -> bool
+        requires { place < self.now.net.now.places }
     {
-        if self.depth < 2048 {
-            self.seen[w as usize] = true;
-            self.link[w as usize] = net.first[w as usize];
-            self.stack[self.depth] = w;
-            self.depth += 1;
+        owners[place as usize].is_none() && self.followed[place as usize].is_none()
+    }
+
+    // Steps onto a place.
+    fn enter(&mut self, place: u16)
+        requires { place < self.old.net.now.places }
+        ensures { self.new.net ≡ self.old.net }
+    {
+        self.followed[place as usize] = Some(0);
+        if !self.stack.is_full() {
+            self.stack.push(place);
         }
     }
 
     // Leaves the place on top of the stack.
-    fn leave(&mut self, net: &Network)
-        requires walking { Walking net.now.places self.old }
-        requires deep { 0 < self.old.depth }
-        ensures turns { self.new.turns ≡ self.old.turns }
-        ensures walking { Walking net.now.places self.new }
+    fn leave(&mut self)
+        ensures { self.new.net ≡ self.old.net }
     {
-        self.depth -= 1;
-        if self.count < 2048 {
-            let x = self.stack[self.depth];
-            self.post[self.count] = x;
-            self.count += 1;
+        if let Some(place) = self.stack.pop() {
+            if !self.left.is_full() {
+                self.left.push(place);
+            }
         }
     }
 
-    // One turn: the next link of the place on top, or back from it.
-    fn turn(&mut self, net: &Network, owners: &[u16; 2048])
-        requires packed { Packed net.now }
-        requires walking { Walking net.now.places self.old }
-        requires deep { 0 < self.old.depth }
-        ensures turns { self.new.turns ≡ self.old.turns }
-        ensures walking { Walking net.now.places self.new }
+    // One turn from the place on top: along its next link, or back.
+    fn turn(&mut self, owners: &[Option<u16>; 2048], place: u16)
+        requires { place < self.old.net.now.places }
+        ensures { self.new.net ≡ self.old.net }
     {
-        let x = self.stack[self.depth - 1] as usize;
-        let i = self.link[x] as usize;
-        let end = net.first[x + 1] as usize;
-        if i >= end {
-            self.leave(net);
+        let followed = self.followed[place as usize].unwrap_or(0);
+        let links = self.net.leaving(place as usize);
+        let Some(link) = links.get(followed as usize).copied() else {
+            self.leave();
             return;
-        }
-        self.link[x] = (i + 1) as u16;
-        let w = net.heads[i];
-        if owners[w as usize] == NOBODY && !self.seen[w as usize] {
-            self.enter(net, w);
+        };
+        self.followed[place as usize] = Some(followed + 1);
+        if self.is_new(owners, link.head) {
+            self.enter(link.head);
         }
     }
 
-    // Walks from a place, if it has no owner and was not met before.
-    fn run(&mut self, net: &Network, owners: &[u16; 2048], start: usize)
-        requires packed { Packed net.now }
-        requires known { start < net.now.places }
-        requires walking { Walking net.now.places self.old }
-        ensures { Walking net.now.places self.new }
+    // Walks from a place, if it has no owner and was not met before. Each turn follows a link or leaves a place, and no
+    // link or place has two, so the turns suffice.
+    fn run(&mut self, owners: &[Option<u16>; 2048], start: u16)
+        requires { start < self.old.net.now.places }
+        ensures { self.new.net ≡ self.old.net }
     {
-        if owners[start] == NOBODY && !self.seen[start] {
-            self.enter(net, start as u16);
+        if self.is_new(owners, start) {
+            self.enter(start);
         }
-        while self.depth > 0 && self.turns > 0 {
-            self.turns -= 1;
-            self.turn(net, owners);
+        for _ in 0..self.net.open_links().len() + self.net.places {
+            let Some(place) = self.stack.as_slice().last().copied() else {
+                return;
+            };
+            self.turn(owners, place);
         }
     }
 }
 
 // The places without an owner, in the order in which a depth-first walk leaves them.
-pub fn postorder(net: &Network, owners: &[u16; 2048]) -> Walk
-    requires packed { Packed net.now }
-    ensures { Walking net.now.places result }
+pub fn postorder(net: &Network, owners: &[Option<u16>; 2048]) -> ArrayVec<u16, 2048>
+    ensures { All (λ p. p < net.now.places) result.items }
 {
-    let links = net.first[net.places] as usize;
-    let mut walk = Walk::new(links + net.places);
+    let mut walk = Walk::new(net);
     for start in 0..net.places {
-        walk.run(net, owners, start);
+        walk.run(owners, start as u16);
     }
-    walk
+    walk.left
 }

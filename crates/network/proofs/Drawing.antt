@@ -1,28 +1,27 @@
--- The ends of the first k links are drawn.
-use Rattle.std.proofs.Common.{◌≡◌, ℕ, ◌+◌, ◌<◌, ◌≤◌, Bool, false, List, length, get_or, set, replicate, ◌∙◌, ⊎_elim, arith, length-set, get_or-set_other, get_or-set_same}
-use lib.ListN.{length-replicate}
+-- The first links of a graph are drawn, by number.
+use Rattle.std.proofs.Common.{◌≡◌, ℕ, ◌+◌, ◌<◌, ◌≤◌, List, [], ◌∷◌, ◌++◌, length, ⊎_elim, arith}
 use Rattle.std.proofs.lemmas.Bool.{cases_lt}
+use Rattle.std.proofs.lemmas.List.{length_push, get_or_append_left, get_or_push}
 use Rattle.structures.specs.Graphs.{Graph}
+use Rattle.network.specs.declared.ends.DrawnLink.{DrawnLink}
+use Rattle.network.specs.Within.{drawn_at}
 
--- the first k entries of a table are the values of a function
-pub record Table {A : Type 0} (v : ℕ → A) (d : A) (k : ℕ) (xs : List A) : Type 0 where
-  pub long : length xs ≡ 4096
-  pub each : (j : ℕ) → j < k → get_or xs j d ≡ v j
+-- a link is drawn as link k of a graph
+pub record Draws (g : Graph) (k : ℕ) (link : DrawnLink) : Type 0 where
+  pub is_open : link.is_open ≡ g.usable k
+  pub tail : link.tail ≡ g.tail k
+  pub head : link.head ≡ g.head k
 
-pub table_none : {A : Type 0} (v : ℕ → A) (d a : A) (n : ℕ) → n ≡ 4096 → Table v d 0 (replicate n a)
-table_none v d a n e = record { long = length-replicate n a ∙ e; each = λ j h. absurd (omega arith) }
+pub record Sketch (g : Graph) (n : ℕ) (links : List DrawnLink) : Type 0 where
+  pub long : length links ≡ n
+  pub each : (k : ℕ) → k < n → Draws g k (drawn_at links k)
 
-pub table_more : {A : Type 0} (v : ℕ → A) (d : A) (k : ℕ) (xs : List A) (x : A) → Table v d k xs → k < 4096 → x ≡ v k → Table v d (k + 1) (set xs k x)
-table_more {A} v d k xs x t lt e = record { long = simp length-set t.long; each = each }
+pub sketch_more : (g : Graph) (n : ℕ) (links : List DrawnLink) (link : DrawnLink) → Sketch g n links → Draws g n link → Sketch g (n + 1) (links ++ link ∷ [])
+sketch_more g n links link s d = record { long = omega (arith, length_push links link, s.long); each = each }
   where
-    each : (j : ℕ) → j < k + 1 → get_or (set xs k x) j d ≡ v j
-    each j h = ⊎_elim (λ q. get_or-set_other xs k j x d (λ i. omega arith) ∙ t.each j q) last (cases_lt j k)
-      where
-        last : k ≤ j → get_or (set xs k x) j d ≡ v j
-        last q = let i : j ≡ k = omega arith in let l : k < length xs = omega (arith, t.long) in rw i (get_or-set_same xs k x d l ∙ e)
-
--- all three tables of a graph
-pub record Sketch (g : Graph) (k : ℕ) (usable : List Bool) (tails heads : List ℕ) : Type 0 where
-  pub open_links : Table g.usable false k usable
-  pub tail_ends : Table g.tail 0 k tails
-  pub head_ends : Table g.head 0 k heads
+    each : (k : ℕ) → k < n + 1 → Draws g k (drawn_at (links ++ link ∷ []) k)
+    each k h =
+        ⊎_elim
+        (λ (earlier : k < n). let within : k < length links = omega (arith, s.long) in rw get_or_append_left (s.each k earlier))
+        (λ (last : n ≤ k). let end : length links ≡ k = omega (arith, s.long) in let same : k ≡ n = omega arith in rw (get_or_push links link _ k end, same) d)
+        (cases_lt k n)

@@ -1,5 +1,6 @@
 -- The graph of a map whose links are open but for those that are closed.
 use Rattle.std.specs.Prelude.{◌≡◌, ℕ, ◌<◌, Bool, true, false, not, List, slice_index, slice_index_or}
+use Rattle.arrayvec.specs.ArrayVec.{array_vec_len}
 use Rattle.structures.specs.Graphs.{Graph}
 use Rattle.mapfile.specs.declared.map.Map.{Map}
 use Rattle.mapfile.specs.Bytes.{word}
@@ -7,6 +8,8 @@ use Rattle.mapfile.specs.Rules.{link_bytes}
 use Rattle.mapfile.specs.View.{bytes_of}
 use Rattle.network.specs.declared.ends.Ends.{Ends}
 use Rattle.network.specs.declared.network.Network.{Network}
+use Rattle.network.specs.Links.{link_at}
+use Rattle.network.specs.Within.{drawn_at}
 
 abbrev pub map_graph : Map → List Bool → Graph
 map_graph m closed = record {
@@ -20,10 +23,10 @@ map_graph m closed = record {
 abbrev pub ends_graph : Ends → Graph
 ends_graph e = record {
   places = e.places;
-  links = e.links;
-  usable = λ k. slice_index_or e.usable k false;
-  tail = λ k. slice_index e.tails k;
-  head = λ k. slice_index e.heads k;
+  links = array_vec_len e.links;
+  usable = λ k. (drawn_at e.links.items k).is_open;
+  tail = λ k. (drawn_at e.links.items k).tail;
+  head = λ k. (drawn_at e.links.items k).head;
 }
 
 -- two graphs with the same places and links
@@ -37,9 +40,9 @@ pub record Alike (g h : Graph) : Type 0 where
 -- the links of a graph, at the positions of a network: each open one once, with its ends, and no other
 pub record Packs (n : Network) (g : Graph) : Type 0 where
   pub places : n.places ≡ g.places
-  pub known : (i : ℕ) → i < slice_index n.first n.places → slice_index n.numbers i < g.links
-  pub usable : (i : ℕ) → i < slice_index n.first n.places → g.usable (slice_index n.numbers i) ≡ true
-  pub tail : (i : ℕ) → i < slice_index n.first n.places → slice_index n.tails i ≡ g.tail (slice_index n.numbers i)
-  pub head : (i : ℕ) → i < slice_index n.first n.places → slice_index n.heads i ≡ g.head (slice_index n.numbers i)
-  pub once : (i j : ℕ) → i < slice_index n.first n.places → j < slice_index n.first n.places → slice_index n.numbers i ≡ slice_index n.numbers j → i ≡ j
-  pub stands : (k : ℕ) → k < g.links → g.usable k ≡ true → (i : ℕ) × (i < slice_index n.first n.places) × (slice_index n.numbers i ≡ k)
+  pub known : (i : ℕ) → i < slice_index n.first n.places → (link_at n.links i).number < g.links
+  pub usable : (i : ℕ) → i < slice_index n.first n.places → g.usable (link_at n.links i).number ≡ true
+  pub tail : (i : ℕ) → i < slice_index n.first n.places → (link_at n.links i).tail ≡ g.tail (link_at n.links i).number
+  pub head : (i : ℕ) → i < slice_index n.first n.places → (link_at n.links i).head ≡ g.head (link_at n.links i).number
+  pub once : (i j : ℕ) → i < slice_index n.first n.places → j < slice_index n.first n.places → (link_at n.links i).number ≡ (link_at n.links j).number → i ≡ j
+  pub stands : (k : ℕ) → k < g.links → g.usable k ≡ true → (i : ℕ) × (i < slice_index n.first n.places) × ((link_at n.links i).number ≡ k)

@@ -1,3 +1,4 @@
+pub mod Links
 pub mod Shape
 pub mod Packed
 pub mod Within

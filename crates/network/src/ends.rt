@@ -1,16 +1,24 @@
-ghost use Rattle.std.specs.Prelude.{◌≡◌, ◌≤◌, length};
+ghost use Rattle.std.specs.Prelude.{◌≤◌};
+ghost use Rattle.arrayvec.specs.ArrayVec.{array_vec_len};
 ghost use Rattle.network.specs.Within.{Within};
+
+use arrayvec::ArrayVec;
 
 mod drawn;
 
+// A link of a map: the place that it leaves, the place that it leads to, and whether it is open.
+#[derive(Clone, Copy, Default)]
+pub struct DrawnLink {
+    pub tail: u16,
+    pub head: u16,
+    pub is_open: bool,
+}
+
 // Where the links of a map begin and end, and which of them are open, by link number.
-#[derive(Clone, Copy)]
+#[derive(Drop)]
 pub struct Ends {
     pub places: usize,
-    pub links: usize,
-    pub usable: [bool; 4096],
-    pub tails: [u16; 4096],
-    pub heads: [u16; 4096],
-    ghost sized: { (places ≤ 2048) × (links ≤ 4096) × (length usable ≡ 4096) × (length tails ≡ 4096) × (length heads ≡ 4096) },
-    ghost within: { Within places links tails heads },
+    pub links: ArrayVec<DrawnLink, 4096>,
+    ghost sized: { (places ≤ 2048) × (array_vec_len links ≤ 4096) },
+    ghost within: { Within places links.items },
 }

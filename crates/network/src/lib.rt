@@ -2,5 +2,6 @@
 #![tactic(auto)]
 
 pub mod ends;
+pub mod link;
 pub mod network;
 mod pack;

@@ -1,7 +1,7 @@
-ghost use Rattle.std.specs.Prelude.{◌≡◌, length};
 ghost use Rattle.network.specs.Drawn.{map_graph, ends_graph, Alike};
 
-use super::Ends;
+use super::{DrawnLink, Ends};
+use arrayvec::ArrayVec;
 use mapfile::map::Map;
 
 impl Ends {
@@ -10,21 +10,18 @@ impl Ends {
         ensures { Alike (ends_graph result) (map_graph map.now closed.now) }
     {
         let counts = map.counts();
-        let mut usable = [false; 4096];
-        let mut tails = [0u16; 4096];
-        let mut heads = [0u16; 4096];
-        for k in 0..counts.links {
-            let link = map.link(k as u32).unwrap();
-            usable[k] = !closed[k];
-            tails[k] = link.from;
-            heads[k] = link.to;
+        let mut links = ArrayVec::new();
+        for (number, is_closed) in closed[..counts.links].iter().enumerate() {
+            let link = map.link(number as u32).unwrap();
+            links.push(DrawnLink {
+                tail: link.from,
+                head: link.to,
+                is_open: !is_closed,
+            });
         }
         Ends {
             places: counts.places,
-            links: counts.links,
-            usable,
-            tails,
-            heads,
+            links,
         }
     }
 }

@@ -1,5 +1,5 @@
 use Rattle.division.specs.Working.{Waiting}
 use Rattle.division.proofs.cover.meet_heads.Given as goal
 
-abbrev pub invariant-loop-i : goal.invariant-loop-i
-invariant-loop-i l = Waiting l.net.places l.work
+abbrev pub invariant-loop-link : goal.invariant-loop-link
+invariant-loop-link l = Waiting l.net.places l.work

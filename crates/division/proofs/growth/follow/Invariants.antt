@@ -1,6 +1,8 @@
+use Rattle.std.proofs.Common.{◌+◌, length}
 use Rattle.division.specs.Lists.{at}
 use Rattle.division.proofs.Links.{Following}
 use Rattle.division.proofs.growth.follow.Given as goal
 
-abbrev pub invariant-loop-i : goal.invariant-loop-i
-invariant-loop-i l = Following l.net l.v l.k (at l.initial.members) l.joined (at l.members) (at l.left) l.len l.i
+abbrev pub invariant-loop-link : goal.invariant-loop-link
+invariant-loop-link l =
+    Following l.net l.v l.k l.u (at l.initial.members.items) (length l.initial.members.items) (at l.members.items) (at l.left) (length l.members.items) (at l.net.first l.u + l.link-index)

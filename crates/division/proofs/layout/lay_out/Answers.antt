@@ -1,73 +1,88 @@
-use Rattle.std.proofs.Common.{◌≡◌, ℕ, ◌+◌, List, length, sym, refl, ap, ◌∙◌, subst, arith, length-set}
+use Rattle.std.proofs.Common.{Bor, ◌≡◌, ◌+◌, ◌<◌, ℕ, List, length, sym, ap, ◌∙◌, subst, arith, length-set}
+use Rattle.network.specs.declared.network.Network.{Network}
 use Rattle.network.specs.Packed.{graph_of}
+use Rattle.network.proofs.Parts.{within}
 use Rattle.division.specs.Lists.{at}
-use Rattle.division.specs.Growing.{Full}
-use Rattle.division.proofs.Parts.{packed_within}
-use Rattle.division.proofs.Laid.{Laid, laid_none, laid_skip, laid_room, laid_all, laid_same, turn_lays}
+use Rattle.division.specs.Growing.{Grown}
+use Rattle.division.specs.Laying.{Stretched}
+use Rattle.division.proofs.Laid.{begins, ends, Laid, laid_skip, laid_room, laid_all, laid_same, turn_lays}
 use Rattle.division.proofs.layout.lay_out.Goals as goal
-use Rattle.division.proofs.layout.lay_out.Goals.{then-triggers-t, else-triggers-t}
+use Rattle.division.proofs.layout.lay_out.Goals.{then-trigger-t, else-trigger-t}
 
-pub write_stretch-requires : goal.write_stretch-requires
-write_stretch-requires c =
-    let g = graph_of c.args.net.now in
-    let named = c.requires.named c.loop-t.t c.loop-t-test.true in
-    let room = laid_room g (packed_within c.args.net.now c.requires.packed) (at c.args.order.now) (at c.loop-t.order) (at c.loop-t.begins) (at c.loop-t.ends) c.loop-t.next c.loop-t.t
-    c.loop-t-test.true c.loop-t.invariant.1 (sym named ∙ c.if-triggers-t.true) (at c.grow-len.new.members) c.grow-len.result.len c.grow-len.ensures.grown in
-    record {
-      some = c.grow-len.ensures.grown.begun;
-      short = omega (arith, c.grow-len.ensures.grown.short, c.requires.packed.sized);
-      room = omega (arith, room, c.requires.room, c.grow-len.ensures.grown.begun);
-    }
+-- what grew, in the network that the call began with
+same_net : {a b : Bor Network} {t : ℕ} (members : List ℕ) → a ≡ b → Grown (graph_of a.now) t (at members) (length members) → Grown (graph_of b.now) t (at members) (length members)
+same_net {a} {b} {t} members e grown = subst (λ (r : Bor Network). Grown (graph_of r.now) t (at members) (length members)) e grown
 
-pub overflow_cast-begins : goal.overflow_cast-begins
-overflow_cast-begins c =
-    let room = laid_room (graph_of c.args.net.now) (packed_within c.args.net.now c.requires.packed) (at c.args.order.now) (at c.loop-t.order) (at c.loop-t.begins) (at c.loop-t.ends) c.loop-t.next c.loop-t.t
-    c.loop-t-test.true c.loop-t.invariant.1 (sym (c.requires.named c.loop-t.t c.loop-t-test.true) ∙ c.if-triggers-t.true) (at c.grow-len.new.members) c.grow-len.result.len c.grow-len.ensures.grown in
-    omega (arith, room, c.requires.packed.sized)
+pub write_stretch-requires-clause-room : goal.write_stretch-requires-clause-room
+write_stretch-requires-clause-room c =
+    let n = c.args.grower.now.net.now in
+    let here : c.loop-t.t < n.places = omega (arith, c.loop-t-test.true, c.requires.long) in
+    let long : length c.as_slice-members.result.now ≡ length c.grow.new.self.members.items = ap length c.as_slice-members.ensures.value in
+    let grown = same_net _ c.loop-t.invariant.0 c.grow.ensures.grown in
+    let room = laid_room (graph_of n) (within n) (at c.args.order.now) (at c.loop-t.order) (begins c.loop-t.stretches) (ends c.loop-t.stretches) c.loop-t.next c.loop-t.t
+    here c.loop-t.invariant.1 (sym (c.requires.named c.loop-t.t here) ∙ c.if-trigger-t.true) (at c.grow.new.self.members.items) (length c.grow.new.self.members.items) grown in
+    omega (arith, room, long, c.requires.room, grown.begun)
 
-pub overflow_add-next : goal.overflow_add-next
-overflow_add-next c =
-    let room = laid_room (graph_of c.args.net.now) (packed_within c.args.net.now c.requires.packed) (at c.args.order.now) (at c.loop-t.order) (at c.loop-t.begins) (at c.loop-t.ends) c.loop-t.next c.loop-t.t
-    c.loop-t-test.true c.loop-t.invariant.1 (sym (c.requires.named c.loop-t.t c.loop-t-test.true) ∙ c.if-triggers-t.true) (at c.grow-len.new.members) c.grow-len.result.len c.grow-len.ensures.grown in
-    omega (arith, room, c.requires.packed.sized)
+pub overflow_add-end : goal.overflow_add-end
+overflow_add-end c =
+    let n = c.args.grower.now.net.now in
+    let here : c.loop-t.t < n.places = omega (arith, c.loop-t-test.true, c.requires.long) in
+    let long : length c.as_slice-members.result.now ≡ length c.grow.new.self.members.items = ap length c.as_slice-members.ensures.value in
+    let grown = same_net _ c.loop-t.invariant.0 c.grow.ensures.grown in
+    let room = laid_room (graph_of n) (within n) (at c.args.order.now) (at c.loop-t.order) (begins c.loop-t.stretches) (ends c.loop-t.stretches) c.loop-t.next c.loop-t.t
+    here c.loop-t.invariant.1 (sym (c.requires.named c.loop-t.t here) ∙ c.if-trigger-t.true) (at c.grow.new.self.members.items) (length c.grow.new.self.members.items) grown in
+    omega (arith, room, long, n.sized)
 
-pub overflow_cast-ends : goal.overflow_cast-ends
-overflow_cast-ends c =
-    let room = laid_room (graph_of c.args.net.now) (packed_within c.args.net.now c.requires.packed) (at c.args.order.now) (at c.loop-t.order) (at c.loop-t.begins) (at c.loop-t.ends) c.loop-t.next c.loop-t.t
-    c.loop-t-test.true c.loop-t.invariant.1 (sym (c.requires.named c.loop-t.t c.loop-t-test.true) ∙ c.if-triggers-t.true) (at c.grow-len.new.members) c.grow-len.result.len c.grow-len.ensures.grown in
-    omega (arith, room, c.requires.packed.sized)
+pub overflow_cast-stretches : goal.overflow_cast-stretches
+overflow_cast-stretches c =
+    let n = c.args.grower.now.net.now in
+    let here : c.loop-t.t < n.places = omega (arith, c.loop-t-test.true, c.requires.long) in
+    let long : length c.as_slice-members.result.now ≡ length c.grow.new.self.members.items = ap length c.as_slice-members.ensures.value in
+    let grown = same_net _ c.loop-t.invariant.0 c.grow.ensures.grown in
+    let room = laid_room (graph_of n) (within n) (at c.args.order.now) (at c.loop-t.order) (begins c.loop-t.stretches) (ends c.loop-t.stretches) c.loop-t.next c.loop-t.t
+    here c.loop-t.invariant.1 (sym (c.requires.named c.loop-t.t here) ∙ c.if-trigger-t.true) (at c.grow.new.self.members.items) (length c.grow.new.self.members.items) grown in
+    omega (arith, room, long, n.sized)
 
-pub loop-t-init : goal.loop-t-init
-loop-t-init c = (c.requires.left, laid_none (graph_of c.args.net.now) (at c.args.order.now) _ _, refl, refl)
+pub overflow_cast-stretches-then-trigger-t : goal.overflow_cast-stretches-then-trigger-t
+overflow_cast-stretches-then-trigger-t c =
+    let n = c.args.grower.now.net.now in
+    let here : c.loop-t.t < n.places = omega (arith, c.loop-t-test.true, c.requires.long) in
+    let long : length c.as_slice-members.result.now ≡ length c.grow.new.self.members.items = ap length c.as_slice-members.ensures.value in
+    let grown = same_net _ c.loop-t.invariant.0 c.grow.ensures.grown in
+    let room = laid_room (graph_of n) (within n) (at c.args.order.now) (at c.loop-t.order) (begins c.loop-t.stretches) (ends c.loop-t.stretches) c.loop-t.next c.loop-t.t
+    here c.loop-t.invariant.1 (sym (c.requires.named c.loop-t.t here) ∙ c.if-trigger-t.true) (at c.grow.new.self.members.items) (length c.grow.new.self.members.items) grown in
+    omega (arith, room, long, n.sized)
 
 pub loop-t-preserved : goal.loop-t-preserved
 loop-t-preserved c =
-    let g = graph_of c.args.net.now in
-    let within = packed_within c.args.net.now c.requires.packed in
-    let named = c.requires.named c.loop-t.t c.loop-t-test.true in
-    elim c.if-triggers-t.branch [
-      | then-triggers-t w ↦ (
-        subst (λ (xs : List ℕ). Full g (at xs)) (sym w.left-is) w.grow-len.ensures.left,
-        laid_same g (at c.args.order.now) (c.loop-t.t + 1) _ _ _ _ _ _ _ _ w.order-is w.begins-is w.ends-is w.next-is
-            (turn_lays g within (omega (arith, c.requires.packed.sized)) (at c.args.order.now) c.loop-t.order c.loop-t.begins c.loop-t.ends c.loop-t.next c.loop-t.t
-            c.loop-t-test.true c.loop-t.invariant.1 (sym named ∙ w.if-triggers-t.true) (at w.grow-len.new.members) w.grow-len.result.len w.grow-len.ensures.grown
-            w.write_stretch.new.order w.write_stretch.ensures c.loop-t.invariant.2 c.loop-t.invariant.3),
-        ap length w.begins-is ∙ length-set c.loop-t.begins _ _ ∙ c.loop-t.invariant.2,
-        ap length w.ends-is ∙ length-set c.loop-t.ends _ _ ∙ c.loop-t.invariant.3,
-      )
-      | else-triggers-t w ↦ (
-        subst (λ (xs : List ℕ). Full g (at xs)) (sym w.left-is) c.loop-t.invariant.0,
-        laid_same g (at c.args.order.now) (c.loop-t.t + 1) _ _ _ _ _ _ _ _ w.order-is w.begins-is w.ends-is w.next-is
-            (laid_skip g within (at c.args.order.now) (at c.loop-t.order) (at c.loop-t.begins) (at c.loop-t.ends) c.loop-t.next c.loop-t.t
-            c.loop-t-test.true c.loop-t.invariant.1 (λ e. w.if-triggers-t.false (named ∙ e))),
-        ap length w.begins-is ∙ c.loop-t.invariant.2,
-        ap length w.ends-is ∙ c.loop-t.invariant.3,
+    let n = c.args.grower.now.net.now in
+    let g = graph_of n in
+    let here : c.loop-t.t < n.places = omega (arith, c.loop-t-test.true, c.requires.long) in
+    let named = c.requires.named c.loop-t.t here in
+    elim c.if-trigger-t.branch [
+      | then-trigger-t w ↦
+          let members : List ℕ = w.grow.new.self.members.items in
+          let long : length w.as_slice-members.result.now ≡ length members = ap length w.as_slice-members.ensures.value in
+          let grown = same_net _ c.loop-t.invariant.0 w.grow.ensures.grown in
+          let stretched = subst (λ (xs : List ℕ). Stretched (at xs) (length xs) c.loop-t.next (at c.loop-t.order) (at w.write_stretch.new.order)) w.as_slice-members.ensures.value w.write_stretch.ensures in (
+            ap (λ x. x.net) w.grower-is ∙ w.grow.ensures.net ∙ c.loop-t.invariant.0,
+            laid_same g (at c.args.order.now) (c.loop-t.t + 1) _ _ _ _ _ _ w.order-is w.stretches-is w.next-is
+                (turn_lays g (within n) (at c.args.order.now) c.loop-t.order c.loop-t.stretches c.loop-t.next c.loop-t.t here c.loop-t.invariant.1 (sym named ∙ w.if-trigger-t.true)
+                (at members) (length members) grown w.write_stretch.new.order stretched (omega (arith, c.loop-t.invariant.2, n.sized)) _ (omega (arith, long))),
+            ap length w.stretches-is ∙ length-set c.loop-t.stretches _ _ ∙ c.loop-t.invariant.2,
+          )
+      | else-trigger-t w ↦ (
+        ap (λ x. x.net) w.grower-is ∙ c.loop-t.invariant.0,
+        laid_same g (at c.args.order.now) (c.loop-t.t + 1) _ _ _ _ _ _ w.order-is w.stretches-is w.next-is
+            (laid_skip g (within n) (at c.args.order.now) (at c.loop-t.order) (begins c.loop-t.stretches) (ends c.loop-t.stretches) c.loop-t.next c.loop-t.t
+            here c.loop-t.invariant.1 (λ e. w.if-trigger-t.false (named ∙ e))),
+        ap length w.stretches-is ∙ c.loop-t.invariant.2,
       )
     ]
 
-pub returns : goal.returns
-returns c =
-    let g = graph_of c.args.net.now in
-    let done : c.loop-t.t ≡ c.args.net.now.places = omega arith in
-    laid_all g (packed_within c.args.net.now c.requires.packed) c.args.order.now c.loop-t.order c.loop-t.begins c.loop-t.ends c.loop-t.next
-    (subst (λ (p : ℕ). Laid g (at c.args.order.now) (at c.loop-t.order) (at c.loop-t.begins) (at c.loop-t.ends) c.loop-t.next p) done c.loop-t.invariant.1)
+pub returns-clause-order : goal.returns-clause-order
+returns-clause-order c =
+    let n = c.args.grower.now.net.now in
+    let done : c.loop-t.t ≡ n.places = omega (arith, c.requires.long) in
+    laid_all (graph_of n) (within n) c.args.order.now c.loop-t.order c.loop-t.stretches c.loop-t.next
+    (subst (λ (p : ℕ). Laid (graph_of n) (at c.args.order.now) (at c.loop-t.order) (begins c.loop-t.stretches) (ends c.loop-t.stretches) c.loop-t.next p) done c.loop-t.invariant.1)

@@ -1,11 +1,12 @@
 use Rattle.std.proofs.Common.{◌≡◌, length}
 use Rattle.network.specs.Packed.{graph_of}
 use Rattle.division.specs.Lists.{at}
-use Rattle.division.specs.Growing.{Full}
+use Rattle.division.specs.Divided.{stretch_at}
 use Rattle.division.proofs.Laid.{Laid}
 use Rattle.division.proofs.layout.lay_out.Given as goal
 
 abbrev pub invariant-loop-t : goal.invariant-loop-t
 invariant-loop-t l =
-    Full (graph_of l.net) (at l.left) × Laid (graph_of l.net) (at l.initial.order) (at l.order) (at l.begins) (at l.ends) l.next l.t
-    × (length l.begins ≡ 2048) × (length l.ends ≡ 2048)
+    (l.grower.net ≡ l.initial.grower.net)
+    × Laid (graph_of l.initial.grower.net.now) (at l.initial.order) (at l.order) (λ t. (stretch_at l.stretches t).begin) (λ t. (stretch_at l.stretches t).end) l.next l.t
+    × (length l.stretches ≡ 2048)

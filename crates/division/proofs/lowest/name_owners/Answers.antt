@@ -5,5 +5,6 @@ use Rattle.division.proofs.lowest.name_owners.Goals as goal
 
 pub overflow_cast-names : goal.overflow_cast-names
 overflow_cast-names c =
-    let g = graph_of c.args.net.now in
-    omega (arith, c.lowest_twin-low.ensures.lowest.lowest c.loop-u.u (held_self g c.loop-u.u, held_self g c.loop-u.u), c.loop-u-test.true, c.requires.packed.sized)
+    let n = c.loop-u.grower.net.now in
+    let g = graph_of n in
+    omega (arith, c.lowest_twin.ensures.lowest.lowest c.loop-u.u (held_self g c.loop-u.u, held_self g c.loop-u.u), c.loop-u-test.true, c.args.grower.now.net.now.sized)

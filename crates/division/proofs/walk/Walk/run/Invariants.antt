@@ -1,8 +1,5 @@
-use Rattle.division.specs.Working.{Walking}
+use Rattle.std.proofs.Common.{◌≡◌}
 use Rattle.division.proofs.walk.Walk.run.Given as goal
 
-abbrev pub invariant-loop-self : goal.invariant-loop-self
-invariant-loop-self l = Walking l.net.places l.self
-
-abbrev pub decreases-loop-self : goal.decreases-loop-self
-decreases-loop-self l = l.self.turns
+abbrev pub invariant-loop : goal.invariant-loop
+invariant-loop l = l.self.net ≡ l.initial.self.net

@@ -1,36 +1,21 @@
-use Rattle.std.proofs.Common.{◌-◌, arith}
-use Rattle.division.specs.Lists.{at}
-use Rattle.division.proofs.Parts.{part_index, part_head, part_known}
+use Rattle.std.proofs.Common.{sym, ap, ◌∙◌, arith}
+use Rattle.network.specs.Links.{blank}
+use Rattle.network.proofs.Leaving.{leaving_place}
+use Rattle.division.proofs.Copied.{copied_within, copied_at}
 use Rattle.division.proofs.walk.Walk.turn.Goals as goal
-
-pub bounds-net-i : goal.bounds-net-i
-bounds-net-i c =
-    let x = at c.args.self.now.stack (c.args.self.now.depth - 1) in
-    part_index c.args.net.now c.requires.packed x (at c.args.self.now.link x) (c.requires.walking.entered (c.args.self.now.depth - 1) (omega (arith, c.requires.deep))) c.if-i-end.false
-
-pub bounds-owners-w : goal.bounds-owners-w
-bounds-owners-w c =
-    let x = at c.args.self.now.stack (c.args.self.now.depth - 1) in
-    part_head c.args.net.now c.requires.packed x (at c.args.self.now.link x) (c.requires.walking.entered (c.args.self.now.depth - 1) (omega (arith, c.requires.deep))) c.if-i-end.false
-
-pub bounds-self-w : goal.bounds-self-w
-bounds-self-w c =
-    let x = at c.args.self.now.stack (c.args.self.now.depth - 1) in
-    part_head c.args.net.now c.requires.packed x (at c.args.self.now.link x) (c.requires.walking.entered (c.args.self.now.depth - 1) (omega (arith, c.requires.deep))) c.if-i-end.false
 
 pub enter-requires : goal.enter-requires
 enter-requires c =
-    let x = at c.args.self.now.stack (c.args.self.now.depth - 1) in
-    let here = c.requires.walking.entered (c.args.self.now.depth - 1) (omega (arith, c.requires.deep)) in
-    record {
-      packed = c.requires.packed;
-      known = c.requires.packed.ends (at c.args.self.now.link x) (part_known c.args.net.now c.requires.packed x (at c.args.self.now.link x) here c.if-i-end.false);
-      walking = record {
-        entered = c.requires.walking.entered;
-        deep = c.requires.walking.deep;
-        wide = c.requires.walking.wide;
-        left = c.requires.walking.left;
-        room = c.requires.walking.room;
-        long = c.requires.walking.long;
-      };
-    }
+    let xs = c.leaving-links.result.now in
+    let e = sym c.copied.ensures ∙ c.in-Some.is in
+    let read = copied_at xs c.unwrap_or-followed.result c.get.result c.in-Some.link blank c.get.ensures.lookup e in
+    let within = copied_within xs c.unwrap_or-followed.result c.get.result c.in-Some.link c.get.ensures.lookup e in
+    omega (arith, ap (λ l. l.head) read, leaving_place c.args.self.now.net.now c.args.place c.requires xs c.leaving-links.ensures c.unwrap_or-followed.result within)
+
+pub is_new-requires : goal.is_new-requires
+is_new-requires c =
+    let xs = c.leaving-links.result.now in
+    let e = sym c.copied.ensures ∙ c.in-Some.is in
+    let read = copied_at xs c.unwrap_or-followed.result c.get.result c.in-Some.link blank c.get.ensures.lookup e in
+    let within = copied_within xs c.unwrap_or-followed.result c.get.result c.in-Some.link c.get.ensures.lookup e in
+    omega (arith, ap (λ l. l.head) read, leaving_place c.args.self.now.net.now c.args.place c.requires xs c.leaving-links.ensures c.unwrap_or-followed.result within)

@@ -1,71 +1,51 @@
-use Rattle.std.proofs.Common.{◌≡◌, ◌+◌, refl, subst, arith}
+use Rattle.std.proofs.Common.{◌≡◌, ℕ, ◌<◌, true, List, length, slice_index, refl, ap, subst, arith, rules}
+use Rattle.network.specs.declared.ends.DrawnLink.{DrawnLink}
+use Rattle.network.specs.declared.ends.Ends.{Ends}
+use Rattle.network.specs.declared.link.OpenLink.{OpenLink}
 use Rattle.network.specs.Drawn.{ends_graph}
-use Rattle.network.proofs.Filled.{Filled, filled_none, filled_yes, filled_no, filled_same, next_few}
-use Rattle.network.proofs.Packing.{packed, sized_at, parts_at, ends_at, tails_at}
+use Rattle.network.specs.Within.{drawn_at}
+use Rattle.network.proofs.Counted.{Started}
+use Rattle.network.proofs.Filled.{Filled, bounded, next_few, filled_yes, filled_no}
+use Rattle.network.proofs.Packing.{Done, sized_at, parts_at, ends_at, tails_at, packed}
 use Rattle.network.proofs.network.Network.of.Goals as goal
-use Rattle.network.proofs.network.Network.of.Goals.{then-ends-k, else-ends-k}
+use Rattle.network.proofs.network.Network.of.Goals.{then-link, else-link}
 
-pub bounds-numbers-at : goal.bounds-numbers-at
-bounds-numbers-at c =
-    let e = c.args.ends.now in
-    let w = e.within c.loop-k.k c.loop-k-test.true in
-    let n = next_few (ends_graph e) e.sized.1 e.sized.0 c.loop-k.k c.loop-k.next c.loop-k.numbers c.loop-k.tails c.loop-k.heads c.loop-k.invariant c.loop-k-test.true c.if-ends-k.true w.0 in
-    omega (arith, n)
+-- the slot of an open link lies in the table
+room : (e : Ends) (drawn : List DrawnLink) (k : ℕ) (next : List ℕ) (links : List OpenLink) → drawn ≡ e.links.items → Filled (ends_graph e) k next links → k < length drawn → (drawn_at drawn k).is_open ≡ true → slice_index next (drawn_at drawn k).tail < 4096
+room e drawn k next links s f lt u = rw s (next_few (ends_graph e) (bounded e) k next links f (rw s at lt) (rw s at u))
 
-pub bounds-tails-at : goal.bounds-tails-at
-bounds-tails-at c =
-    let e = c.args.ends.now in
-    let w = e.within c.loop-k.k c.loop-k-test.true in
-    let n = next_few (ends_graph e) e.sized.1 e.sized.0 c.loop-k.k c.loop-k.next c.loop-k.numbers c.loop-k.tails c.loop-k.heads c.loop-k.invariant c.loop-k-test.true c.if-ends-k.true w.0 in
-    omega (arith, n)
+pub bounds-links-at : goal.bounds-links-at
+bounds-links-at c = room c.args.ends.now _ _ c.loop-number.next c.loop-number.links c.as_slice-link-items.ensures.value c.loop-number.invariant c.loop-number-test.true c.if-link.true
 
-pub bounds-heads-at : goal.bounds-heads-at
-bounds-heads-at c =
-    let e = c.args.ends.now in
-    let w = e.within c.loop-k.k c.loop-k-test.true in
-    let n = next_few (ends_graph e) e.sized.1 e.sized.0 c.loop-k.k c.loop-k.next c.loop-k.numbers c.loop-k.tails c.loop-k.heads c.loop-k.invariant c.loop-k-test.true c.if-ends-k.true w.0 in
-    omega (arith, n)
+pub overflow_add-at : goal.overflow_add-at
+overflow_add-at c =
+    let r = room c.args.ends.now _ _ c.loop-number.next c.loop-number.links c.as_slice-link-items.ensures.value c.loop-number.invariant c.loop-number-test.true c.if-link.true in
+    omega (arith, r)
 
-pub overflow_add-next : goal.overflow_add-next
-overflow_add-next c =
+pub loop-number-preserved : goal.loop-number-preserved
+loop-number-preserved c =
     let e = c.args.ends.now in
-    let w = e.within c.loop-k.k c.loop-k-test.true in
-    let n = next_few (ends_graph e) e.sized.1 e.sized.0 c.loop-k.k c.loop-k.next c.loop-k.numbers c.loop-k.tails c.loop-k.heads c.loop-k.invariant c.loop-k-test.true c.if-ends-k.true w.0 in
-    omega (arith, n)
-
-pub loop-k-init : goal.loop-k-init
-loop-k-init c =
-    let e = c.args.ends.now in
-    filled_none (ends_graph e) e.sized.1 e.sized.0 c.starts-first.result 4096 refl c.starts-first.ensures.long c.starts-first.ensures.starts
-
-pub loop-k-preserved : goal.loop-k-preserved
-loop-k-preserved c =
-    let e = c.args.ends.now in
-    let g = ends_graph e in
-    let k = c.loop-k.k in
-    let t = e.within k c.loop-k-test.true in
-    elim c.if-ends-k.branch [
-      | then-ends-k w ↦ filled_same g (k + 1) w.next-is w.numbers-is w.tails-is w.heads-is (filled_yes g e.sized.1 e.sized.0 k c.loop-k.next c.loop-k.numbers c.loop-k.tails c.loop-k.heads c.loop-k.invariant _ _ _ (c.loop-k.invariant.nexts _ t.0) refl refl c.loop-k-test.true w.if-ends-k.true t.0)
-      | else-ends-k w ↦ filled_same g (k + 1) w.next-is w.numbers-is w.tails-is w.heads-is (filled_no g e.sized.1 e.sized.0 k c.loop-k.next c.loop-k.numbers c.loop-k.tails c.loop-k.heads c.loop-k.invariant w.if-ends-k.false)
+    let s = c.as_slice-link-items.ensures.value in
+    let l = c.loop-number in
+    let lt = rw s at c.loop-number-test.true in
+    elim c.if-link.branch [
+      | then-link w ↦ rw (w.next-is, w.links-is, s) (filled_yes (ends_graph e) (bounded e) l.number l.next l.links l.invariant lt (rw s at w.if-link.true))
+      | else-link w ↦ rw (w.next-is, w.links-is) (filled_no (ends_graph e) (bounded e) l.number l.next l.links l.invariant lt (rw s at w.if-link.false))
     ]
+
+-- every link of the map has been seen
+done : (e : Ends) (k : ℕ) (first next : List ℕ) (links : List OpenLink) → Started (ends_graph e) e.places first → Filled (ends_graph e) k next links → k ≡ length e.links.items → Done (ends_graph e) e.places first links
+done e k first next links s f q = record { same_places = refl; bounded = bounded e; started = s; next = next; filled = subst (λ x. Filled (ends_graph e) x next links) q f }
 
 pub invariant_of-result : goal.invariant_of-result
 invariant_of-result c =
     let e = c.args.ends.now in
-    let g = ends_graph e in
-    let k : c.loop-k.k ≡ e.links = omega arith in
-    let f = subst (λ x. Filled g x c.loop-k.next c.loop-k.numbers c.loop-k.tails c.loop-k.heads) k c.loop-k.invariant in
-    record {
-      sized = sized_at g e.sized.1 e.sized.0 e.within c.starts-first.result c.loop-k.next c.loop-k.numbers c.loop-k.tails c.loop-k.heads c.starts-first.ensures.starts c.starts-first.ensures.long f;
-      parts = parts_at g e.sized.1 e.sized.0 e.within c.starts-first.result c.loop-k.next c.loop-k.numbers c.loop-k.tails c.loop-k.heads c.starts-first.ensures.starts c.starts-first.ensures.long f;
-      ends = ends_at g e.sized.1 e.sized.0 e.within c.starts-first.result c.loop-k.next c.loop-k.numbers c.loop-k.tails c.loop-k.heads c.starts-first.ensures.starts c.starts-first.ensures.long f;
-      leaves = tails_at g e.sized.1 e.sized.0 e.within c.starts-first.result c.loop-k.next c.loop-k.numbers c.loop-k.tails c.loop-k.heads c.starts-first.ensures.starts c.starts-first.ensures.long f;
-    }
+    let l = c.loop-number in
+    let d : Done (ends_graph e) e.places c.starts-first.result l.links = done e l.number _ l.next l.links (record { long = search rules; each = c.starts-first.ensures }) l.invariant (omega (arith, ap length c.as_slice-link-items.ensures.value)) in
+    record { sized = sized_at d; parts = parts_at d; ends = ends_at d; leaves = tails_at d }
 
 pub returns : goal.returns
 returns c =
     let e = c.args.ends.now in
-    let g = ends_graph e in
-    let k : c.loop-k.k ≡ e.links = omega arith in
-    let f = subst (λ x. Filled g x c.loop-k.next c.loop-k.numbers c.loop-k.tails c.loop-k.heads) k c.loop-k.invariant in
-    packed g e.sized.1 e.sized.0 e.within c.starts-first.result c.loop-k.next c.loop-k.numbers c.loop-k.tails c.loop-k.heads c.starts-first.ensures.starts c.starts-first.ensures.long f _ refl refl refl refl refl
+    let l = c.loop-number in
+    packed _ (done e l.number _ l.next l.links (record { long = search rules; each = c.starts-first.ensures }) l.invariant (omega (arith, ap length c.as_slice-link-items.ensures.value)))

@@ -1,0 +1,16 @@
+-- What `get(i).copied()` reads from a slice.
+use Rattle.std.proofs.Common.{◌≡◌, ℕ, ◌<◌, List, length, slice_index_or, Option, Some, None, Bor, sym, refl, ◌∙◌}
+use Rattle.std.specs.Option.{option_copied}
+use Rattle.std.specs.Slice.{IsItemAt}
+use Rattle.std.proofs.lemmas.Bool.{ltb-true}
+use Rattle.std.proofs.lemmas.Option.{slice_get_read, get_or_from_slice_get}
+
+pub copied_within : {X : Type 0} (xs : List X) (i : ℕ) (r : Option (Bor X)) (x : X) → IsItemAt xs i r → option_copied r ≡ Some x → i < length xs
+copied_within xs i (Some b) x at e = ltb-true i (length xs) (sym at.0)
+copied_within xs i None x at e = absurd cc
+
+pub copied_at : {X : Type 0} (xs : List X) (i : ℕ) (r : Option (Bor X)) (x d : X) → IsItemAt xs i r → option_copied r ≡ Some x → slice_index_or xs i d ≡ x
+copied_at xs i (Some b) x d at e =
+    let same : b.now ≡ x = cc in
+    get_or_from_slice_get xs i b.now d (slice_get_read xs (length xs) i b.now refl (copied_within xs i (Some b) x at e) at.1) ∙ same
+copied_at xs i None x d at e = absurd cc

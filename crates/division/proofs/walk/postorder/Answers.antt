@@ -1,4 +1,0 @@
-use Rattle.division.proofs.walk.postorder.Goals as goal
-
-pub loop-start-init : goal.loop-start-init
-loop-start-init c = c.new-walk.ensures c.args.net.now.places

@@ -1,0 +1,9 @@
+-- A ring, of the code: the members of a structure, its first member, and where each of them stands.
+use Rattle.std.specs.Prelude.{length}
+use Rattle.network.specs.Packed.{graph_of}
+use Rattle.division.specs.declared.lowest.Ring.{Ring}
+use Rattle.division.specs.Lists.{at}
+use Rattle.division.specs.Twinned.{Ringed}
+
+abbrev pub IsRing : Ring → Type 0
+IsRing ring = Ringed (graph_of ring.net.now) ring.u (at ring.members.now) (length ring.members.now) (at ring.spots.now)
