@@ -1,18 +1,9 @@
 -- What a list of steps does to a cost, for any lawful meaning.
-use Rattle.std.proofs.Common.{◌≡◌, ℕ, ◌+◌, ◌<◌, false, List, [], ◌∷◌, length, get_or, take}
+use Rattle.std.proofs.Common.{◌≡◌, false, List, [], ◌∷◌}
 use Rattle.kinds.proofs.Order.{not_less_self, not_greater_trans}
 use Rattle.kinds.specs.Laws.{Laws}
 use Rattle.kinds.specs.Meaning.{Meaning}
 use Rattle.kinds.specs.Runs.{cost_from, NeverFalls, StaysInOrder}
-use Rattle.std.proofs.lemmas.List.Sums.{fold_more}
-
--- one step more
-pub cost_from_more :
-    {Cost Step : Type 0} (m : Meaning Cost Step) (start cost after : Cost) (steps : List Step) (i : ℕ) (step : Step)
-    → cost ≡ cost_from m start (take i steps) → i < length steps → step ≡ get_or steps i step → after ≡ m.after cost step
-    → after ≡ cost_from m start (take (i + 1) steps)
-cost_from_more m start cost after steps i step e h s a =
-    let more = fold_more m.after start steps i step h in cc
 
 module _ {Cost Step : Type 0} (m : Meaning Cost Step) (laws : Laws m) where
   -- steps give costs

@@ -1,5 +1,5 @@
 -- When a signal is green, and the next green moment. Moments are tenths of a second, 0 the first.
-use Rattle.std.specs.Prelude.{◌≡◌, ℕ, ◌+◌, ◌-◌, ◌*◌, ◌%◌, ◌<◌, ◌≤◌, cond, nat_lt}
+use Rattle.std.specs.Prelude.{◌≡◌, ℕ, ◌+◌, ◌-◌, ◌*◌, ◌%◌, ◌<◌, ◌≤◌, if◌then◌else◌, nat_lt}
 use Rattle.mapfile.specs.declared.signal.Signal.{Signal}
 
 -- x less the green start, modulo the cycle. A signal starts within its first cycle, so taking the start off is adding what
@@ -26,4 +26,4 @@ pub record NextGreen (s : Signal) (x y : ℕ) : Type 0 where
 
 -- a moment in the red waits for the rest of the cycle
 abbrev pub next_green : Signal → ℕ → ℕ
-next_green s x = x + cond (nat_lt (phase_of s x) s.length) 0 (s.cycle - phase_of s x)
+next_green s x = x + (if nat_lt (phase_of s x) s.length then 0 else s.cycle - phase_of s x)

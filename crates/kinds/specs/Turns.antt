@@ -1,5 +1,5 @@
 -- Time then turns: the sooner is cheaper, and of two equally soon the one with fewer turns.
-use Rattle.std.specs.Prelude.{◌+◌, ◌≤◌, Bool, cond, ◌==◌, nat_le, nat_lt}
+use Rattle.std.specs.Prelude.{◌+◌, ◌≤◌, Bool, if◌then◌else◌, ◌==◌, nat_le, nat_lt}
 use Rattle.kinds.specs.Cut.{top, cut}
 use Rattle.kinds.specs.Delays.{elapsed_on}
 use Rattle.kinds.specs.Meaning.{Meaning}
@@ -14,12 +14,12 @@ turn_step facts = record { elapsed = elapsed_on facts.link; turn = nat_le 2 fact
 -- a time past the top is the greatest cost of all: the pair is cut as a whole
 abbrev pub turns_after : TimeAndTurns → TurnStep → TimeAndTurns
 turns_after c s =
-    cond (nat_lt top (c.time + s.elapsed))
-    (record { time = top; turns = top })
-    (record { time = c.time + s.elapsed; turns = cut (c.turns + cond s.turn 1 0) })
+    if nat_lt top (c.time + s.elapsed)
+    then record { time = top; turns = top }
+    else record { time = c.time + s.elapsed; turns = cut (c.turns + (if s.turn then 1 else 0)) }
 
 abbrev pub turns_less : TimeAndTurns → TimeAndTurns → Bool
-turns_less a b = cond (a.time == b.time) (nat_lt a.turns b.turns) (nat_lt a.time b.time)
+turns_less a b = if a.time == b.time then nat_lt a.turns b.turns else nat_lt a.time b.time
 
 abbrev pub time_then_turns : Meaning TimeAndTurns TurnStep
 time_then_turns =

@@ -41,10 +41,9 @@ impl Kind for Clock {
     // The sum may be cut first: from the top on, the next green is not below the top.
     fn after(&self, cost: u32, step: ClockStep) -> u32 {
         let arrival = cost.saturating_add(step.elapsed);
-        match step.signal {
-            Some(signal) => green::next_green(signal, arrival).min(u64::from(u32::MAX)) as u32,
-            None => arrival,
-        }
+        step.signal.map_or(arrival, |signal| {
+            u32::try_from(green::next_green(signal, arrival)).unwrap_or(u32::MAX)
+        })
     }
 
     fn less(a: u32, b: u32) -> bool {
@@ -53,8 +52,6 @@ impl Kind for Clock {
 }
 
 // Every step of the clock ends at the least green moment not before the sum, cut to the top.
-pub fn clock_stands() -> u8
+pub fn clock_stands()
     ensures { EachArrives }
-{
-    0
-}
+{}

@@ -8,27 +8,21 @@ use super::kind::Kind;
 pub fn cost_of<K: Kind>(kind: &K, turnout: u32, steps: &[K::Step]) -> K::Cost
     ensures { result ≡ run_cost K.Kind.meaning turnout steps.now }
 {
-    let mut cost = kind.start(turnout);
-    for step in steps {
-        cost = kind.after(cost, *step);
-    }
-    cost
+    steps
+        .iter()
+        .fold(kind.start(turnout), |cost, step| kind.after(cost, *step))
 }
 
 // Of every kind: the cost of a run never falls as it grows, and of two starts the one not greater stays so over the same steps.
-pub fn runs_stand<K: Kind>() -> u8
+pub fn runs_stand<K: Kind>()
     ensures falls { NeverFalls K.Kind.meaning }
     ensures order { StaysInOrder K.Kind.meaning }
-{
-    0
-}
+{}
 
 // The time of time then turns is the running time; the clock is never before it, and equals it where no link ends
 // at a signal.
-pub fn kinds_stand() -> u8
+pub fn kinds_stand()
     ensures time { SameTime }
     ensures clock { NeverEarlier }
     ensures unsignalled { WithoutSignals }
-{
-    0
-}
+{}

@@ -37,7 +37,7 @@ fn delays(rt: HostRuntime) {
     let expected = [
         0, 0, 10, 15, 20, 25, 30, 40, 45, 50, 60, 70, 80, 90, 100, 120,
     ];
-    for class in 0..16 {
+    for (class, delay) in expected.iter().enumerate() {
         let link = Link {
             from: 0,
             to: 1,
@@ -46,7 +46,7 @@ fn delays(rt: HostRuntime) {
             signal: None,
             grade: 0,
         };
-        assert_eq!(rt; delay::elapsed(&link), 7 + expected[class]);
+        assert_eq!(rt; delay::elapsed(&link), 7 + *delay);
     }
 }
 

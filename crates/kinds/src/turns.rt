@@ -12,7 +12,7 @@ const TURN: u8 = 2;
 #[derive(Clone, Copy)]
 pub struct TimeThenTurns;
 
-#[derive(Clone, Copy, PartialEq, Eq, Debug)]
+#[derive(Clone, Copy, PartialEq, Eq, PartialOrd, Ord, Debug)]
 pub struct TimeAndTurns {
     pub time: u32,
     pub turns: u32,
@@ -65,10 +65,6 @@ impl Kind for TimeThenTurns {
     }
 
     fn less(a: TimeAndTurns, b: TimeAndTurns) -> bool {
-        if a.time == b.time {
-            a.turns < b.turns
-        } else {
-            a.time < b.time
-        }
+        a < b
     }
 }
