@@ -1,4 +1,5 @@
 use kinds::kind::Kind;
+use queues::entry::is_below;
 use queues::refusal::OfferRefusal;
 
 // The plain list: whoever waits stands in some place of it.
@@ -9,27 +10,13 @@ pub struct Plain<'a, C> {
     takes: u32,
 }
 
-fn cheaper<K: Kind>(a: K::Cost, b: Option<K::Cost>) -> bool {
-    match b {
-        Some(b) => K::less(a, b),
-        None => false,
-    }
-}
-
-// Whether `a` leaves before `b`; nobody leaves last.
-fn sooner<K: Kind>(a: Option<(u32, K::Cost)>, b: Option<(u32, K::Cost)>) -> bool {
-    match (a, b) {
-        (Some(a), Some(b)) => K::less(a.1, b.1) || !K::less(b.1, a.1) && a.0 < b.0,
-        (Some(_), None) => true,
-        (None, _) => false,
-    }
+// Whether `a` leaves before `b`.
+fn sooner<K: Kind>(a: (u32, K::Cost), b: (u32, K::Cost)) -> bool {
+    K::less(a.1, b.1) || !K::less(b.1, a.1) && a.0 < b.0
 }
 
 fn is_number<C: Copy>(waits: Option<(u32, C)>, number: u32) -> bool {
-    match waits {
-        Some(pair) => pair.0 == number,
-        None => false,
-    }
+    waits.is_some_and(|pair| pair.0 == number)
 }
 
 impl<'a, C: Copy> Plain<'a, C> {
@@ -42,9 +29,7 @@ impl<'a, C: Copy> Plain<'a, C> {
     }
 
     pub fn clear(&mut self) {
-        for waits in self.list.iter_mut() {
-            *waits = None;
-        }
+        self.list.fill(None);
         self.floor = None;
         self.takes = 0;
     }
@@ -62,87 +47,55 @@ impl<'a, C: Copy> Plain<'a, C> {
     }
 
     pub fn waiting(&self) -> usize {
-        let all = &*self.list;
-        let mut count = 0;
-        for i in 0..all.len() {
-            let waits = all[i];
-            if waits.is_some() {
-                count += 1;
-            }
-        }
-        count
+        self.list.iter().flatten().count()
     }
 
     pub fn cost(&self, number: u32) -> Option<C> {
-        let all = &*self.list;
-        for i in 0..all.len() {
-            let waits = all[i];
-            if let Some(pair) = waits {
-                if pair.0 == number {
-                    return Some(pair.1);
-                }
-            }
-        }
-        None
+        self.list
+            .iter()
+            .flatten()
+            .find(|pair| pair.0 == number)
+            .map(|pair| pair.1)
     }
-}
 
-// The place of a number, or else a free one.
-fn place_for<C: Copy>(plain: &Plain<'_, C>, number: u32) -> Option<usize> {
-    let all = &*plain.list;
-    let mut free = None;
-    for i in 0..all.len() {
-        let waits = all[i];
-        if is_number(waits, number) {
-            return Some(i);
-        }
-        if waits.is_none() {
-            free = Some(i);
-        }
+    // The place of a number, or else a free one.
+    fn place_for(&self, number: u32) -> Option<usize> {
+        let own = self.list.iter().position(|waits| is_number(*waits, number));
+        own.or_else(|| self.list.iter().position(|waits| waits.is_none()))
     }
-    free
-}
 
-pub fn offer<K: Kind>(
-    plain: &mut Plain<'_, K::Cost>,
-    number: u32,
-    cost: K::Cost,
-) -> Result<(), OfferRefusal> {
-    if cheaper::<K>(cost, plain.floor) {
-        return Err(OfferRefusal::BelowFloor);
+    // The first to leave.
+    fn first<K: Kind<Cost = C>>(&self) -> Option<(u32, C)> {
+        self.list.iter().flatten().copied().reduce(|best, pair| if sooner::<K>(pair, best) {
+            pair
+        } else {
+            best
+        })
     }
-    let old = plain.cost(number);
-    if let Some(old) = old {
-        if !K::less(cost, old) {
+
+    pub fn offer<K: Kind<Cost = C>>(&mut self, number: u32, cost: C) -> Result<(), OfferRefusal> {
+        if is_below::<K>(cost, self.floor) {
+            return Err(OfferRefusal::BelowFloor);
+        }
+        if self.cost(number).is_some_and(|old| !K::less(cost, old)) {
             return Ok(());
         }
-    }
-    match place_for(plain, number) {
-        Some(place) => {
-            if place < plain.list.len() {
-                plain.list[place] = Some((number, cost));
-            }
-            Ok(())
+        let place = self.place_for(number).ok_or(OfferRefusal::Full)?;
+        if let Some(waits) = self.list.get_mut(place) {
+            *waits = Some((number, cost));
         }
-        None => Err(OfferRefusal::Full),
+        Ok(())
     }
-}
 
-pub fn take<K: Kind>(plain: &mut Plain<'_, K::Cost>) -> Option<(u32, K::Cost)> {
-    let mut best = None;
-    let mut place = 0;
-    for i in 0..plain.list.len() {
-        let waits = plain.list[i];
-        if sooner::<K>(waits, best) {
-            best = waits;
-            place = i;
+    pub fn take<K: Kind<Cost = C>>(&mut self) -> Option<(u32, C)> {
+        let first = self.first::<K>()?;
+        for waits in self.list.iter_mut() {
+            if is_number(*waits, first.0) {
+                *waits = None;
+            }
         }
+        self.floor = Some(first.1);
+        self.takes = self.takes.saturating_add(1);
+        Some(first)
     }
-    let pair = best?;
-    if place < plain.list.len() {
-        plain.list[place] = None;
-    }
-    plain.floor = Some(pair.1);
-    plain.takes = plain.takes.saturating_add(1);
-    Some(pair)
 }
