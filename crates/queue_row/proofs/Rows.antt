@@ -1,80 +1,76 @@
 -- What the row's writes mean.
-use Rattle.std.proofs.Common.{◌≡◌, ℕ, ◌+◌, ◌<◌, min, Bool, true, false, ◌≢◌, List, length, Some, Ok, Err, sym, refl, ap, ◌∙◌, subst, arith}
+use Rattle.std.proofs.Common.{◌≡◌, ℕ, ◌+◌, ◌<◌, min, Bool, false, ◌≢◌, ◌⊎◌, max, List, length, Some, Ok, sym, ap, ◌∙◌, subst, inl, inr, arith}
 use Rattle.kinds.specs.Meaning.{Meaning}
 use Rattle.kinds.specs.Laws.{Laws}
 use Rattle.queues.specs.declared.entry.Item.{Item}
 use Rattle.queues.specs.declared.entry.Entry.{Entry}
-use Rattle.queues.specs.declared.refusal.OfferRefusal.TheVariants.{Full}
-use Rattle.queues.specs.State.{State, lowered, added}
-use Rattle.queues.specs.Offers.{below}
+use Rattle.queues.specs.State.{lowered, added}
 use Rattle.queues.specs.Takes.{Took}
 use Rattle.queues.specs.Order.{before}
-use Rattle.queues.specs.Cells.{entry, item, cells_state, Tidy, Nowhere, Refloored}
-use Rattle.queues.proofs.Calls.{Offered, offer_full, offer_added, offer_kept, offer_lowered}
+use Rattle.queues.specs.Cells.{entry, item, cells_state, Tidy, Refloored}
+use Rattle.queues.proofs.Calls.{Offered, offer_added, offer_lowered}
 use Rattle.queues.proofs.Places.{seek_none, seek_at}
+use Rattle.queues.specs.declared.lent.Lent.{Lent}
+use Rattle.queues.specs.Lent.{lent_state, LentTidy}
+use Rattle.queues.proofs.Lents.{Lowers, Adds, Goes}
 use Rattle.queues.proofs.States.{items_state, more_fit, more_state, recost_fit, recost_state, less_fit, less_state, least_from}
 use Rattle.queue_row.specs.Rows.{Written}
 
-module _ {C : Type 0} (less : C → C → Bool) (old : List (Entry C)) (len takes n : ℕ) (c : C) (tidy : Tidy old len) (high : below less (entry old 0).floor c ≡ false) where
-  state : State C
-  state = cells_state old len takes
+-- an offered item is written where it goes
+module _ {C : Type 0} (less : C → C → Bool) (q : Lent C) (n : ℕ) (c : C) (tidy : LentTidy q) (place : ℕ) (goes : Goes less q n c place) (new : List (Entry C)) (w : Written q.entries.now new place record { number = n; cost = Some c }) where
+  abbrev old : List (Entry C)
+  old = q.entries.now
 
-  it : Item C
-  it = record { number = n; cost = Some c }
+  abbrev len : ℕ
+  len = q.waiting
 
-  module _ (place : ℕ) (within : place < len) (number : (item old place).number ≡ n) where
-    waits : (cells_state old len takes).at n ≡ (item old place).cost
-    waits = seek_at (item old) n len place tidy.fit.once within number
+  -- what the offer leaves, if `more` items then wait
+  abbrev Leaves : ℕ → Type 0
+  Leaves more = Offered less (lent_state q) n c (Ok tt) (cells_state new more q.takes) × Tidy new more
 
-    pub row_kept : below less (item old place).cost c ≡ false → Offered less (cells_state old len takes) n c (Ok tt) (cells_state old len takes)
-    row_kept no_less = offer_kept less _ n c (item old place).cost _ high waits (tidy.fit.costed place within) no_less refl
+  cost_at : (item new place).cost ≡ Some c
+  cost_at = ap (λ (x : Item C). x.cost) w.here
 
-    module _ (new : List (Entry C)) (w : Written old new place record { number = n; cost = Some c }) where
-      recosted : (item new place).number ≡ (item old place).number
-      recosted = ap (λ (x : Item C). x.number) w.here ∙ sym number
+  number_at : (item new place).number ≡ n
+  number_at = ap (λ (x : Item C). x.number) w.here
 
-      cost : (item new place).cost ≡ Some c
-      cost = ap (λ (x : Item C). x.cost) w.here
+  row_lowered : Lowers less q n c place → Leaves len
+  row_lowered l =
+      let f = item old in
+      let recosted = number_at ∙ sym l.number in (
+        offer_lowered less _ n c (f place).cost _ goes.high (seek_at f n len place tidy.fit.once l.within l.number) (tidy.fit.costed place l.within) l.is_less
+            ((λ i. items_state (item new) len (w.floor_same i) q.takes (w.length_same i))
+            ∙ recost_state (entry old 0).floor f (item new) len q.takes (length old) tidy.fit c place l.within recosted cost_at w.there
+            ∙ ap (λ x. lowered (lent_state q) x c) l.number),
+        record {
+          room = omega (arith, tidy.room, w.length_same);
+          fit = recost_fit (entry old 0).floor f (item new) len q.takes (length old) tidy.fit c place l.within recosted cost_at w.there;
+        },
+      )
 
-      pub row_lowered : below less (item old place).cost c ≡ true → Offered less (cells_state old len takes) n c (Ok tt) (cells_state new len takes)
-      row_lowered is_less =
-          offer_lowered less _ n c (item old place).cost _ high waits (tidy.fit.costed place within) is_less
-          ((λ i. items_state (item new) len (w.floor_same i) takes (w.length_same i))
-          ∙ recost_state (entry old 0).floor (item old) (item new) len takes (length old) tidy.fit c place within recosted cost w.there
-          ∙ ap (λ x. lowered (cells_state old len takes) x c) number)
+  row_added : Adds q n place → Leaves (len + 1)
+  row_added a =
+      let f = item old in
+      let w' : Written old new len record { number = n; cost = Some c } = subst (λ x. Written old new x record { number = n; cost = Some c }) a.end w in
+      let same : (k : ℕ) → k < len → item new k ≡ item old k = λ k h. w'.there k (λ e. omega arith) in
+      let number_at_end : (item new len).number ≡ n = ap (λ (x : Item C). x.number) w'.here in
+      let cost_at_end : (item new len).cost ≡ Some c = ap (λ (x : Item C). x.cost) w'.here in (
+        offer_added less _ n c _ goes.high (seek_none f n len a.nowhere) a.room
+            ((λ i. items_state (item new) (len + 1) (w'.floor_same i) q.takes (w'.length_same i))
+            ∙ more_state (entry old 0).floor f (item new) len q.takes (length old) tidy.fit c same cost_at_end
+            ∙ ap (λ x. added (lent_state q) x c) number_at_end),
+        record {
+          room = omega (arith, tidy.room, a.room, w'.length_same);
+          fit = more_fit (entry old 0).floor f (item new) len q.takes (length old) tidy.fit c same cost_at_end (λ k h e. a.nowhere k h (e ∙ number_at_end));
+        },
+      )
 
-      pub row_lowered_tidy : Tidy new len
-      row_lowered_tidy = record {
-        room = omega (arith, tidy.room, w.length_same);
-        fit = recost_fit (entry old 0).floor (item old) (item new) len takes (length old) tidy.fit c place within recosted cost w.there;
-      }
-
-  module _ (nowhere : Nowhere (item old) n len) where
-    pub row_full : len ≡ length old → Offered less (cells_state old len takes) n c (Err Full) (cells_state old len takes)
-    row_full full = offer_full less _ n c _ high (seek_none (item old) n len nowhere) full refl
-
-    module _ (new : List (Entry C)) (room : len ≡ length old → ⊥) (w : Written old new len record { number = n; cost = Some c }) where
-      same : (k : ℕ) → k < len → item new k ≡ item old k
-      same k h = w.there k (λ e. omega arith)
-
-      number_at : (item new len).number ≡ n
-      number_at = ap (λ (x : Item C). x.number) w.here
-
-      cost_at : (item new len).cost ≡ Some c
-      cost_at = ap (λ (x : Item C). x.cost) w.here
-
-      pub row_added : Offered less (cells_state old len takes) n c (Ok tt) (cells_state new (len + 1) takes)
-      row_added =
-          offer_added less _ n c _ high (seek_none (item old) n len nowhere) room
-          ((λ i. items_state (item new) (len + 1) (w.floor_same i) takes (w.length_same i))
-          ∙ more_state (entry old 0).floor (item old) (item new) len takes (length old) tidy.fit c same cost_at
-          ∙ ap (λ x. added (cells_state old len takes) x c) number_at)
-
-      pub row_added_tidy : Tidy new (len + 1)
-      row_added_tidy = record {
-        room = omega (arith, tidy.room, w.length_same);
-        fit = more_fit (entry old 0).floor (item old) (item new) len takes (length old) tidy.fit c same cost_at (λ k h e. nowhere k h (e ∙ number_at));
-      }
+  pub row_put : (more : ℕ) → more ≡ max len (place + 1) → Leaves more
+  row_put more e = by_way goes.way
+    where
+      by_way : Lowers less q n c place ⊎ Adds q n place → Leaves more
+      by_way (inl l) = let same : more ≡ len = omega (arith, l.within) in subst Leaves (sym same) (row_lowered l)
+      by_way (inr a) = let one_more : more ≡ len + 1 = omega (arith, a.end) in subst Leaves (sym one_more) (row_added a)
 
 module _ {C Step : Type 0} {m : Meaning C Step} (laws : Laws m) (old mid new : List (Entry C)) (len takes place : ℕ) (c : C) (tidy : Tidy old (len + 1)) (within : place < len + 1) (first : (k : ℕ) → k < len + 1 → before m.less (item old k) (item old place) ≡ false)
     (cost : (item old place).cost ≡ Some c) (w : Written old mid place (item old len)) (f : Refloored mid new (Some c)) where

@@ -5,3 +5,4 @@ pub mod States
 pub mod Calls
 pub mod Runs
 pub mod Drains
+pub mod Lents

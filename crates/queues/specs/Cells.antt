@@ -1,5 +1,5 @@
 -- What a lent list means of which the first `len` entries have the items that wait.
-use Rattle.std.specs.Prelude.{◌≡◌, ℕ, zero, suc, ◌<◌, ◌≤◌, true, cond, List, length, is_some, Some, None, Option, ◌==◌, ◌≢◌, slice_index_or}
+use Rattle.std.specs.Prelude.{◌≡◌, ℕ, zero, suc, ◌<◌, ◌≤◌, true, if◌then◌else◌, List, length, is_some, Some, None, Option, ◌==◌, ◌≢◌, slice_index_or}
 use Rattle.queues.specs.declared.entry.Item.{Item}
 use Rattle.queues.specs.declared.entry.Entry.{Entry}
 use Rattle.queues.specs.State.{State}
@@ -18,7 +18,7 @@ module _ {Cost : Type 0} where
   -- the cost of n among the first `len` items
   abbrev pub seek : (ℕ → Item Cost) → ℕ → ℕ → Option Cost
   seek items n zero = None
-  seek items n (suc len) = cond (n == (items len).number) (items len).cost (seek items n len)
+  seek items n (suc len) = if n == (items len).number then (items len).cost else seek items n len
 
   abbrev pub cells_state : List (Entry Cost) → ℕ → ℕ → State Cost
   cells_state cells len takes = record {

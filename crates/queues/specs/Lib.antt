@@ -5,5 +5,6 @@ pub mod Takes
 pub mod Sound
 pub mod Order
 pub mod Cells
+pub mod Lent
 pub mod Drains
 pub mod Runs

@@ -1,5 +1,5 @@
 -- What an offer is answered, and what it leaves.
-use Rattle.std.specs.Prelude.{ℕ, Bool, false, cond, Some, None, Ok, Err, Option, Result, ◌==◌}
+use Rattle.std.specs.Prelude.{ℕ, Bool, false, if◌then◌else◌, Some, None, Ok, Err, Option, Result, ◌==◌}
 use Rattle.queues.specs.declared.refusal.OfferRefusal.{OfferRefusal}
 use Rattle.queues.specs.declared.refusal.OfferRefusal.TheVariants.{BelowFloor, Full}
 use Rattle.queues.specs.State.{State, added, lowered}
@@ -12,8 +12,8 @@ module _ {Cost : Type 0} (less : Cost → Cost → Bool) where
 
   -- an offer of n, which waits so far as `waits` says, is refused
   abbrev pub refusal_at : State Cost → Option Cost → Cost → Option OfferRefusal
-  refusal_at s (Some old) c = cond (below s.floor c) (Some BelowFloor) None
-  refusal_at s None c = cond (below s.floor c) (Some BelowFloor) (cond (s.waiting == s.size) (Some Full) None)
+  refusal_at s (Some old) c = if below s.floor c then Some BelowFloor else None
+  refusal_at s None c = if below s.floor c then Some BelowFloor else if s.waiting == s.size then Some Full else None
 
   abbrev pub refusal : State Cost → ℕ → Cost → Option OfferRefusal
   refusal s n c = refusal_at s (s.at n) c
@@ -27,7 +27,7 @@ module _ {Cost : Type 0} (less : Cost → Cost → Bool) where
 
   -- an accepted offer keeps a waiting number whose cost is not higher, lowers one whose cost is, and else adds it
   abbrev pub accepted_at : State Cost → Option Cost → ℕ → Cost → State Cost
-  accepted_at s (Some old) n c = cond (less c old) (lowered s n c) s
+  accepted_at s (Some old) n c = if less c old then lowered s n c else s
   accepted_at s None n c = added s n c
 
   abbrev pub offered_as : State Cost → Option OfferRefusal → ℕ → Cost → State Cost

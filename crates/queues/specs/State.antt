@@ -1,5 +1,5 @@
 -- What a queue means, and the changes that its calls make.
-use Rattle.std.specs.Prelude.{ℕ, ◌+◌, ◌-◌, min, cond, Some, None, Option, ◌==◌}
+use Rattle.std.specs.Prelude.{ℕ, ◌+◌, ◌-◌, min, if◌then◌else◌, Some, None, Option, ◌==◌}
 
 pub record State (Cost : Type 0) : Type 0 where
   -- the cost at which a number waits, if it waits
@@ -16,7 +16,7 @@ pub record State (Cost : Type 0) : Type 0 where
 module _ {Cost : Type 0} where
   -- `at`, but for the number n
   abbrev pub put : (ℕ → Option Cost) → ℕ → Option Cost → ℕ → Option Cost
-  put at n o m = cond (m == n) o (at m)
+  put at n o m = if m == n then o else at m
 
   abbrev pub cleared : ℕ → State Cost
   cleared size = record { at = λ _. None; waiting = 0; floor = None; takes = 0; size = size }

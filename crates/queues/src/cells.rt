@@ -7,19 +7,15 @@ use super::entry::Entry;
 pub fn floor_of<C: Copy>(cells: &[Entry<C>]) -> Option<C>
     ensures { result ≡ (entry cells.now 0).floor }
 {
-    if cells.is_empty() {
-        return None;
-    }
-    let first = cells[0];
-    first.floor
+    cells.first()?.floor
 }
 
 // Writes the floor; an empty list has no room for one.
 pub fn set_floor<C: Copy>(cells: &mut [Entry<C>], floor: Option<C>)
     ensures { Refloored cells.old cells.new floor }
 {
-    if cells.len() > 0 {
-        cells[0].floor = floor;
+    if let Some(first) = cells.first_mut() {
+        first.floor = floor;
     }
 }
 
@@ -27,10 +23,5 @@ pub fn set_floor<C: Copy>(cells: &mut [Entry<C>], floor: Option<C>)
 pub fn scan<C: Copy>(cells: &[Entry<C>], number: u32) -> Option<usize>
     ensures { Found (item cells.now) number (length cells.now) result }
 {
-    for (i, cell) in cells.iter().enumerate() {
-        if cell.item.number == number {
-            return Some(i);
-        }
-    }
-    None
+    cells.iter().position(|cell| cell.item.number == number)
 }

@@ -1,5 +1,5 @@
 ghost use Rattle.std.specs.Prelude.{◌≡◌};
-ghost use Rattle.queues.specs.Order.{before as ahead};
+ghost use Rattle.queues.specs.Order.{before as ahead, cheaper as cheaper_of};
 ghost use Rattle.queues.specs.Cells.{blank as blank_entry};
 ghost use Rattle.queues.specs.Offers.{below};
 
@@ -37,24 +37,23 @@ impl<C> Entry<C> {
     }
 }
 
+// Whether `a` is less than `b`: no cost comes before every cost.
+fn cheaper<K: Kind>(a: Option<K::Cost>, b: Option<K::Cost>) -> bool
+    ensures { result ≡ cheaper_of K.Kind.meaning.less a b }
+{
+    b.is_some_and(|b| a.is_none_or(|a| K::less(a, b)))
+}
+
 // Whether `a` leaves before `b`: by its cost, then by its number.
 pub fn before<K: Kind>(a: Item<K::Cost>, b: Item<K::Cost>) -> bool
     ensures { result ≡ ahead K.Kind.meaning.less a b }
 {
-    match (a.cost, b.cost) {
-        (Some(x), Some(y)) => K::less(x, y) || !K::less(y, x) && a.number < b.number,
-        (None, Some(_)) => true,
-        (Some(_), None) => false,
-        (None, None) => a.number < b.number,
-    }
+    cheaper::<K>(a.cost, b.cost) || !cheaper::<K>(b.cost, a.cost) && a.number < b.number
 }
 
 // Whether `cost` is below `bound`; nothing is below none.
 pub fn is_below<K: Kind>(cost: K::Cost, bound: Option<K::Cost>) -> bool
     ensures { result ≡ below K.Kind.meaning.less bound cost }
 {
-    match bound {
-        Some(least) => K::less(cost, least),
-        None => false,
-    }
+    bound.is_some_and(|bound| K::less(cost, bound))
 }

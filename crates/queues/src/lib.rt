@@ -5,5 +5,6 @@ pub mod cells;
 pub mod drain;
 pub mod entry;
 pub mod law;
+pub mod lent;
 pub mod queue;
 pub mod refusal;

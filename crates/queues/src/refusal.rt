@@ -1,5 +1,5 @@
 ghost use Rattle.std.specs.Prelude.{◌≡◌, Some};
-ghost use Rattle.queues.specs.Refusals.{number as number_of_lem, said};
+ghost use Rattle.queues.specs.Refusals.{number, said};
 
 use std::fmt;
 use std::fmt::{Display, Formatter, Write};
@@ -7,19 +7,16 @@ use std::fmt::{Display, Formatter, Write};
 // Why an offer is refused.
 #[derive(Clone, Copy, PartialEq, Eq, Debug)]
 pub enum OfferRefusal {
-    BelowFloor,
-    Full,
+    BelowFloor = 16,
+    Full = 17,
 }
 
-impl OfferRefusal {
-    // The refusal's number among a planner's answers.
-    pub fn number(self) -> u8
-        ensures { result ≡ number_of_lem self }
-    {
-        match self {
-            OfferRefusal::BelowFloor => 16,
-            OfferRefusal::Full => 17,
-        }
+// The refusal's number among a planner's answers.
+impl From<OfferRefusal> for u8 {
+    ghost from_gives = { λ refusal n. n ≡ number refusal };
+
+    fn from(refusal: OfferRefusal) -> u8 {
+        refusal as u8
     }
 }
 

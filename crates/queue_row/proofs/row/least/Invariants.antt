@@ -1,8 +1,7 @@
-use Rattle.std.proofs.Common.{◌≡◌, ℕ, ◌<◌, false}
-use Rattle.queues.specs.Order.{before}
+use Rattle.std.proofs.Common.{◌<◌}
 use Rattle.queues.specs.Cells.{item}
+use Rattle.queue_row.proofs.Firsts.{First}
 use Rattle.queue_row.proofs.row.least.Given as goal
 
-abbrev pub invariant-loop-i : goal.invariant-loop-i
-invariant-loop-i g l =
-    (l.best < l.i) × ((k : ℕ) → k < l.i → before g.K.Kind.meaning.less (item l.row.entries.now k) (item l.row.entries.now l.best) ≡ false)
+abbrev pub invariant-loop-place : goal.invariant-loop-place
+invariant-loop-place g l = (l.best < l.lent.waiting) × First g.K.Kind.meaning.less (item l.lent.entries.now) l.best l.place
