@@ -1,5 +1,5 @@
 -- Following links: one, and those of one place one after the other.
-use Rattle.std.specs.Prelude.{◌≡◌, ℕ, ◌<◌, ◌≤◌, Bool, cond, not, ◌||◌, ◌≢◌, ◌⊎◌}
+use Rattle.std.specs.Prelude.{◌≡◌, ℕ, ◌<◌, ◌≤◌, Bool, if◌then◌else◌, not, ◌||◌, ◌≢◌, ◌⊎◌}
 use Rattle.kinds.specs.Meaning.{Meaning}
 use Rattle.runs.specs.Labels.{Sheet, arrived, Meets}
 use Rattle.runs.specs.Nets.{Net, Open}
@@ -14,7 +14,7 @@ module _ {Cost Step : Type 0} (m : Meaning Cost Step) where
 
   -- The label after an arrival at that cost by link k.
   abbrev pub lowered : Cost → ℕ → Label Cost → Label Cost
-  lowered cost k label = cond (lowers cost label) (arrived cost k) label
+  lowered cost k label = if lowers cost label then arrived cost k else label
 
   module _ (net : Net Step) where
     -- From L to M link k was followed, from the cost c at its tail.
