@@ -41,11 +41,7 @@ pub fn begun(heap: Global, places: u16, links: u16, signals: u16) -> Result<Vec<
 // A link that leads back to its start, with a signal if there are any.
 fn link(file: &mut Vec<u8>, number: u16, places: u16, signals: u16) -> Result<(), AllocError> {
     let place = number.min(places.saturating_sub(1));
-    let signal = if signals == 0 {
-        65535
-    } else {
-        number % signals
-    };
+    let signal = number.checked_rem(signals).unwrap_or(65535);
     words(file, &[place, place, number, number % 16, signal, 1000])
 }
 
