@@ -1,15 +1,15 @@
-ghost use Rattle.std.specs.Prelude.{◌≡◌, ◌+◌, ◌-◌, ◌<◌, ◌≤◌, min, length, Some, option_and_then};
+ghost use Rattle.std.specs.Prelude.{◌≡◌, ◌+◌, ◌-◌, ◌≤◌, min, length, Some, option_and_then};
 ghost use Rattle.queues.specs.State.{cleared};
 ghost use Rattle.queues.specs.Cells.{item as item_at, Found, Refloored};
 ghost use Rattle.queues.specs.Lent.{lent_state, admitted, place_of};
-ghost use Rattle.std.specs.Option.{ForSome};
 
 use super::cells::{floor_of, scan, set_floor};
 use super::entry::{Entry, is_below};
 use super::refusal::OfferRefusal;
 use kinds::kind::Kind;
 
-// A lent list, and what a queue keeps beside it: the first `waiting` entries have the items that wait.
+// A lent list, and what a queue keeps beside it: the first `waiting` entries have the items that wait. That they are no
+// more than the list is no ghost field: through a struct that has one, a queue cannot lend the list that lies in it.
 #[derive(Drop)]
 pub struct Lent<'a, C> {
     pub entries: &'a mut [Entry<C>],
@@ -55,10 +55,9 @@ impl<'a, C: Copy> Lent<'a, C> {
 
     // The cost of the item at `found`, if there is one.
     pub fn cost_at(&self, found: Option<usize>) -> Option<C>
-        requires { ForSome found (λ place. place < length self.now.entries.now) }
         ensures { result ≡ option_and_then (λ place. (item_at self.now.entries.now place).cost) found }
     {
-        self.entries[found?].item.cost
+        self.entries.get(found?)?.item.cost
     }
 
     // Refuses a cost below the floor.
@@ -79,12 +78,11 @@ impl<'a, C: Copy> Lent<'a, C> {
         found: Option<usize>,
         cost: C,
     ) -> Result<Option<usize>, OfferRefusal>
-        requires { ForSome found (λ place. place < length self.now.entries.now) }
         ensures { result ≡ place_of K.Kind.meaning.less self.now found cost }
     {
         match found {
             Some(place) => {
-                let lower = is_below::<K>(cost, self.entries[place].item.cost);
+                let lower = is_below::<K>(cost, self.cost_at(found));
                 Ok(lower.then_some(place))
             }
             None if self.waiting == self.entries.len() => Err(OfferRefusal::Full),
@@ -94,13 +92,12 @@ impl<'a, C: Copy> Lent<'a, C> {
 
     // Counts a take at `cost`: one item fewer waits.
     pub fn count_take(&mut self, cost: C)
-        requires { 0 < self.old.waiting }
         ensures floor { Refloored self.old.entries.now self.new.entries.now (Some cost) }
         ensures waiting { self.new.waiting ≡ self.old.waiting - 1 }
         ensures takes { self.new.takes ≡ min (self.old.takes + 1) 4294967295 }
     {
         set_floor(self.entries, Some(cost));
-        self.waiting -= 1;
+        self.waiting = self.waiting.saturating_sub(1);
         self.takes = self.takes.saturating_add(1);
     }
 }
