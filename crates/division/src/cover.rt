@@ -10,7 +10,7 @@ use super::work::Work;
 use network::network::Network;
 
 // The places that growths have covered so far, each with the place whose growth covered it last, and the places to grow
-// from next.
+// from next. What holds between two calls is no ghost field, which may hold no data: it has the list of the calls.
 #[derive(Drop)]
 pub struct Covering {
     owners: [Option<u16>; 2048],

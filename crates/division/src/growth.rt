@@ -8,7 +8,8 @@ use super::counters::count_approaches;
 use arrayvec::ArrayVec;
 use network::network::Network;
 
-// Grows structures in a network. Between two growths each place has as many links left to follow as lead to it.
+// Grows structures in a network. Between two growths each place has as many links left to follow as lead to it. The
+// tables stay two: one is only read, the other is lent for writing at the same time.
 #[derive(Drop)]
 pub struct Grower<'n> {
     pub net: &'n Network,

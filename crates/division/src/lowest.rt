@@ -11,7 +11,8 @@ use super::cover::cover;
 use super::growth::Grower;
 use network::network::Network;
 
-// The members of u's structure, u first, and the position of each; u is approached, from among them only.
+// The members of u's structure, u first, and the position of each; u is approached, from among them only. That is no
+// ghost field, which may hold no data: it says for each place at which position it stands.
 #[derive(Clone, Copy)]
 pub struct Ring<'r> {
     net: &'r Network,

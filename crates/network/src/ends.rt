@@ -6,7 +6,8 @@ use arrayvec::ArrayVec;
 
 mod drawn;
 
-// A link of a map: the place that it leaves, the place that it leads to, and whether it is open.
+// A link of a map: the place that it leaves, the place that it leads to, and whether it is open. A flag beside the
+// ends, and no `Option` of them: a closed link has its ends too.
 #[derive(Clone, Copy, Default)]
 pub struct DrawnLink {
     pub tail: u16,
