@@ -8,8 +8,7 @@ use Rattle.queues.specs.Offers.{below, refusal_at, offered, offered_as, accepted
 use Rattle.queues.specs.Takes.{Least}
 use Rattle.queues.specs.Runs.{Run, NoneAbove, NeverFalls, CostsNeverFall}
 use Rattle.queues.specs.Runs.Run.{start, offer, take, idle}
-use Rattle.queues.proofs.Orders.{cheaper_up}
-use Rattle.queues.proofs.States.{less_self}
+use Rattle.kinds.proofs.Order.{not_less_self, not_greater_trans}
 
 module _ {Cost : Type 0} where
   pub some_same : (c d : Cost) → ◌≡◌ {A = Option Cost} (Some c) (Some d) → c ≡ d
@@ -64,12 +63,9 @@ module _ {Cost : Type 0} where
       by_number None new false high = by_room (eqb s.waiting s.size) high new refl
 
 module _ {Cost Step : Type 0} {m : Meaning Cost Step} (laws : Laws m) where
-  pub less_up : (a b c : Cost) → m.less a b ≡ false → m.less b c ≡ false → m.less a c ≡ false
-  less_up a b c = cheaper_up laws (Some a) (Some b) (Some c)
-
   none_above_up : (a b : Cost) (costs : List Cost) → m.less a b ≡ false → NoneAbove m.less b costs → NoneAbove m.less a costs
   none_above_up a b [] h n = tt
-  none_above_up a b (d ∷ costs) h n = (less_up a b d h n.0, none_above_up a b costs h n.1)
+  none_above_up a b (d ∷ costs) h n = (not_greater_trans laws d b a n.0 h, none_above_up a b costs h n.1)
 
   -- no cost was handed out above the floor
   abbrev Under : Option Cost → List Cost → Type 0
@@ -105,7 +101,7 @@ module _ {Cost Step : Type 0} {m : Meaning Cost Step} (laws : Laws m) where
       let above = under_up t.floor c costs (h.floored n c least.waits) h.under in
       record {
         floored = λ k d e. each k d (put_cases t.at n k None d e);
-        under = (less_self laws c, above);
+        under = (not_less_self laws c, above);
         never = (above, h.never);
       }
     where

@@ -1,6 +1,7 @@
 -- From places to the state: what a change of the items means.
-use Rattle.std.proofs.Common.{◌≡◌, ℕ, ◌+◌, ◌<◌, min, Bool, true, false, ◌≢◌, ◌⊎◌, List, is_some, Some, None, Option, sym, refl, ap, ◌∙◌, inl, inr, arith}
+use Rattle.std.proofs.Common.{◌≡◌, ℕ, ◌+◌, ◌<◌, min, true, false, ◌≢◌, ◌⊎◌, List, is_some, Some, None, Option, sym, refl, ap, ◌∙◌, inl, inr, arith}
 use Rattle.std.proofs.lemmas.Bool.{cases_eq, both_ways}
+use Rattle.kinds.proofs.Order.{not_less_self}
 use Rattle.kinds.specs.Meaning.{Meaning}
 use Rattle.kinds.specs.Laws.{Laws}
 use Rattle.queues.specs.declared.entry.Item.{Item}
@@ -43,13 +44,6 @@ module _ {Cost : Type 0} where
         room = t.room;
       }
 
-  pub less_self : {Step : Type 0} {m : Meaning Cost Step} (laws : Laws m) (c : Cost) → m.less c c ≡ false
-  less_self {m = m} laws c = go (m.less c c) refl
-    where
-      go : (b : Bool) → m.less c c ≡ b → m.less c c ≡ false
-      go true e = laws.one_way c c e
-      go false e = e
-
   -- the item that none comes before is the least
   pub least_from : {Step : Type 0} {m : Meaning Cost Step} (laws : Laws m) (cells : List (Entry Cost)) (len takes i : ℕ) (c : Cost) → Tidy cells len → i < len → ((k : ℕ) → k < len → before m.less (item cells k) (item cells i) ≡ false) → (item cells i).cost ≡ Some c → Least m.less (cells_state cells len takes) (item cells i).number c
   least_from {m = m} laws cells len takes i c t h first e =
@@ -67,7 +61,7 @@ module _ {Cost : Type 0} where
         lowest = λ n q.
             let w = stood n c q in
             let level : cheaper m.less (f i).cost (f w.0).cost ≡ false =
-            ap (λ x. cheaper m.less x (f w.0).cost) e ∙ ap (λ x. cheaper m.less (Some c) x) w.3 ∙ less_self laws c
+            ap (λ x. cheaper m.less x (f w.0).cost) e ∙ ap (λ x. cheaper m.less (Some c) x) w.3 ∙ not_less_self laws c
             in
             let r = before_numbers laws (f w.0) (f i) (first w.0 w.1) level in
             omega (arith, w.2);
