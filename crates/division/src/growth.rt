@@ -20,6 +20,8 @@ pub struct Grower<'n> {
     ghost untouched: { Full (graph_of net.now) (at left) },
 }
 
+// What works inside a growth takes the grower's tables one by one: meanwhile they are not what its type says.
+
 // Follows the links that leave member k; a place other than v to which no link is left joins.
 fn follow(
     net: &Network,

@@ -39,11 +39,7 @@ impl BodyKind {
     pub(crate) fn line(self) -> usize
         ensures { result ≡ line self }
     {
-        match self {
-            BodyKind::Places => 2,
-            BodyKind::Links => 10,
-            BodyKind::Signals => 18,
-        }
+        2 + 8 * (self as usize - 1)
     }
 
     // The bytes of one record.

@@ -37,6 +37,8 @@ impl<C> Entry<C> {
     }
 }
 
+// No order is derived: a kind's `less` is a function that stands alone, and its costs need have no other.
+
 // Whether `a` is less than `b`: no cost comes before every cost.
 fn cheaper<K: Kind>(a: Option<K::Cost>, b: Option<K::Cost>) -> bool
     ensures { result ≡ cheaper_of K.Kind.meaning.less a b }

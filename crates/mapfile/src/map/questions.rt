@@ -15,7 +15,7 @@ use crate::signal::Signal;
 // The contents of a file without records.
 static BARE: [u8; 26] = [0; 26];
 
-// A link's signal, by the word that names it.
+// A link's signal, by the word that names it. No `From`, as both types are the library's.
 fn named_signal(word: u16) -> Option<u16>
     ensures { result ≡ signal_named word }
 {
