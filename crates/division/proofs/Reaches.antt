@@ -1,6 +1,7 @@
 -- How far the links of each member lead on a way back to u, and what that says of the lowest twin.
-use Rattle.std.proofs.Common.{◌≡◌, ℕ, ◌+◌, ◌-◌, ◌<◌, ◌≤◌, ◌≢◌, ◌⊎◌, List, length, set, min, max, slice_range, slice_index_or, Option, sym, refl, ap, ◌∙◌, subst, inl, inr, arith, get_or-set_other, get_or-set_same}
-use Rattle.std.proofs.lemmas.Bool.{cases_eq, cases_lt}
+use Rattle.std.proofs.Common.{◌≡◌, ℕ, ◌+◌, ◌-◌, ◌<◌, ◌≤◌, ◌≢◌, ◌⊎◌, List, length, set, min, max, slice_range, slice_index_or, false, nat_eq, Option, Some, sym, refl, ap, ◌∙◌, subst, inl, inr, arith, get_or-set_other, get_or-set_same}
+use Rattle.std.specs.Option.{option_eq}
+use Rattle.std.proofs.lemmas.Bool.{both_ways, cases_eq, cases_lt, eq-eqb}
 use Rattle.structures.specs.Graphs.{Graph, Within, Approach}
 use Rattle.structures.proofs.Held.{Held, held_self, held_before, holder_place}
 use Rattle.structures.proofs.Maximal.{Twins}
@@ -253,6 +254,24 @@ module _ {g : Graph} {u : ℕ} {member : ℕ → ℕ} {len : ℕ} {spot : ℕ �
 -- One whose structure no other place has.
 pub alone_lowest : (g : Graph) (u : ℕ) → Alone g u → LowestTwin g u u
 alone_lowest g u alone = record { twin = (held_self g u, held_self g u); lowest = λ x t. omega (arith, alone x t.0 t.1) }
+
+-- One more owner has its name.
+pub named_more : (g : Graph) (owner : ℕ → Option ℕ) (names : List ℕ) (p low : ℕ) → p < length names → LowestTwin g p low → Named g owner (at names) p → Named g owner (at (set names p low)) (p + 1)
+named_more g owner names p low within twin before u lt own = go (cases_eq u p)
+  where
+    go : (u ≡ p) ⊎ (u ≡ p → ⊥) → LowestTwin g u (at (set names p low) u)
+    go (inl e) = subst (λ x. LowestTwin g x (at (set names p low) x)) (sym e) (subst (LowestTwin g p) (sym (get_or-set_same names p low 0 within)) twin)
+    go (inr ne) = subst (LowestTwin g u) (sym (get_or-set_other names p u low 0 ne)) (before u (omega arith) own)
+
+pub some_differs : (o : Option ℕ) (u : ℕ) → false ≡ option_eq nat_eq o (Some u) → o ≢ Some u
+some_differs o u e f = both_ways (option_eq nat_eq o (Some u)) (sym e) (ap (λ x. option_eq nat_eq x (Some u)) f ∙ eq-eqb u u refl)
+
+pub named_skip : (g : Graph) (owner : ℕ → Option ℕ) (name : ℕ → ℕ) (p : ℕ) → owner p ≢ Some p → Named g owner name p → Named g owner name (p + 1)
+named_skip g owner name p ne before u lt own = go (cases_eq u p)
+  where
+    go : (u ≡ p) ⊎ (u ≡ p → ⊥) → LowestTwin g u (name u)
+    go (inl e) = absurd (ne (subst (λ x. owner x ≡ Some x) e own))
+    go (inr apart) = before u (omega arith) own
 
 -- The name of a place's owner is its trigger.
 module _ (g : Graph) (within : Within g) (owner : ℕ → Option ℕ) (owned : Owned g owner) where

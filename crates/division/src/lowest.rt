@@ -130,8 +130,8 @@ fn name_owners(grower: &mut Grower<'_>, owners: &[Option<u16>; 2048]) -> [u16; 2
     let mut names = [0u16; 2048];
     let mut spots = [0u16; 2048];
     let mut far = [0u16; 2048];
-    for u in 0..grower.net.places {
-        if owners[u] == Some(u as u16) {
+    for (u, owner) in owners[..grower.net.places].iter().enumerate() {
+        if *owner == Some(u as u16) {
             names[u] = lowest_twin(grower, u, &mut spots, &mut far) as u16;
         }
     }

@@ -43,7 +43,8 @@ fn is_take(choice: u32) -> bool {
     }
 }
 
-// Makes one call on both queues and on the list. None, if they answered differently.
+// Makes one call on both queues and on the list. None, if they answered differently. Which call it is, is drawn; each has
+// an answer of its own, so no closure serves for all.
 fn one_step<K: Kind, A: Queue<K>, B: Queue<K>>(
     a: &mut A,
     b: &mut B,
