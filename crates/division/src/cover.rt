@@ -10,7 +10,8 @@ use super::work::Work;
 use network::network::Network;
 
 // The places that growths have covered so far, each with the place whose growth covered it last, and the places to grow
-// from next. What holds between two calls is no ghost field, which may hold no data: it has the list of the calls.
+// from next. What holds between two calls is a clause: as a ghost field it would have to be truncated, and could not be
+// opened for what follows from it, which holds data as it does.
 #[derive(Drop)]
 pub struct Covering {
     owners: [Option<u16>; 2048],
@@ -32,7 +33,8 @@ fn assign(members: &[u16], v: usize, owners: &mut [Option<u16>; 2048])
 fn meet_heads(net: &Network, u: usize, owners: &[Option<u16>; 2048], work: &mut Work)
     requires place { u < net.now.places }
     requires waiting { Waiting net.now.places work.old }
-    ensures { Waiting net.now.places work.new }
+    ensures waiting { Waiting net.now.places work.new }
+    ensures next { work.new.next ≡ work.old.next }
 {
     for link in net.leaving(u) {
         if owners[link.head as usize].is_none() {
@@ -45,7 +47,8 @@ fn meet_heads(net: &Network, u: usize, owners: &[Option<u16>; 2048], work: &mut 
 fn meet_border(net: &Network, members: &[u16], owners: &[Option<u16>; 2048], work: &mut Work)
     requires places { (q : ℕ) → q < length members.now → at members.now q < net.now.places }
     requires waiting { Waiting net.now.places work.old }
-    ensures { Waiting net.now.places work.new }
+    ensures waiting { Waiting net.now.places work.new }
+    ensures next { work.new.next ≡ work.old.next }
 {
     for member in members {
         meet_heads(net, *member as usize, owners, work);
@@ -61,6 +64,7 @@ impl Covering {
         ensures underway { Underway (graph_of grower.old.net.now) self.new }
         ensures covered { owner_at self.new.owners v ≢ None }
         ensures still { StillCovered (graph_of grower.old.net.now) (owner_at self.old.owners) (owner_at self.new.owners) }
+        ensures next { self.new.work.next ≡ self.old.work.next }
     {
         if self.owners[v].is_none() {
             let _ = grower.grow(v);
@@ -70,16 +74,13 @@ impl Covering {
         }
     }
 
-    // Covers what waits, and what comes to wait meanwhile: each place waits once.
+    // Covers what waits, and what comes to wait meanwhile.
     fn drain(&mut self, grower: &mut Grower<'_>)
         requires { Underway (graph_of grower.old.net.now) self.old }
         ensures net { grower.new.net ≡ grower.old.net }
         ensures underway { Underway (graph_of grower.old.net.now) self.new }
     {
-        for _ in 0..2048 {
-            let Some(v) = self.work.next() else {
-                return;
-            };
+        while let Some(v) = self.work.next() {
             self.call(grower, v as usize);
         }
     }
@@ -90,6 +91,7 @@ impl Covering {
         ensures net { grower.new.net ≡ grower.old.net }
         ensures underway { Underway (graph_of grower.old.net.now) self.new }
     {
+        // By number: the grower, with its table, is lent to each call.
         for v in 0..grower.net.places {
             if grower.approaches[v] == 0 {
                 self.call(grower, v);

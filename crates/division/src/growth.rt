@@ -9,7 +9,8 @@ use arrayvec::ArrayVec;
 use network::network::Network;
 
 // Grows structures in a network. Between two growths each place has as many links left to follow as lead to it. The
-// tables stay two: one is only read, the other is lent for writing at the same time.
+// tables stay two, and no table of pairs: what is counted down is lent alone, and so the other cannot change. Each call that
+// changes the grower says that the network is the same, which no type can.
 #[derive(Drop)]
 pub struct Grower<'n> {
     pub net: &'n Network,
@@ -20,7 +21,7 @@ pub struct Grower<'n> {
     ghost untouched: { Full (graph_of net.now) (at left) },
 }
 
-// What works inside a growth takes the grower's tables one by one: meanwhile they are not what its type says.
+// The functions that a growth consists of take its tables one by one: meanwhile they are not what the type says.
 
 // Follows the links that leave member k; a place other than v to which no link is left joins.
 fn follow(
@@ -63,6 +64,7 @@ fn spread(net: &Network, v: usize, left: &mut [u16; 2048], members: &mut ArrayVe
 
 // Puts the counters of the places back that u's links lead to.
 fn put_back_heads(net: &Network, u: usize, full: &[u16; 2048], left: &mut [u16; 2048])
+    // A place is a number: no type says of which network.
     requires { u < net.now.places }
     ensures { PutBack (graph_of net.now) u (at full.now) (at left.old) (at left.new) }
 {

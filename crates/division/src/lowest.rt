@@ -2,8 +2,8 @@ ghost use Rattle.std.specs.Prelude.{◌≡◌, ℕ, ◌+◌, ◌<◌, length};
 ghost use Rattle.network.specs.Packed.{graph_of};
 ghost use Rattle.division.specs.Lists.{at};
 ghost use Rattle.division.specs.Growing.{Grown};
-ghost use Rattle.division.specs.Twinned.{Spotted, LinkReach, Reach, ReachFrom, LowestTwin, Named};
-ghost use Rattle.division.specs.Ringing.{IsRing};
+ghost use Rattle.division.specs.Twinned.{Spotted, LinkReach, Reach, LowestTwin, Named};
+ghost use Rattle.division.specs.Ringing.{IsRing, ReachesFrom};
 ghost use Rattle.division.specs.Covering.{owner_at, Owned};
 ghost use Rattle.division.specs.Divided.{TriggerEntries};
 
@@ -11,8 +11,8 @@ use super::cover::cover;
 use super::growth::Grower;
 use network::network::Network;
 
-// The members of u's structure, u first, and the position of each; u is approached, from among them only. That is no
-// ghost field, which may hold no data: it says for each place at which position it stands.
+// The members of u's structure, u first, and the position of each; u is approached, from among them only. That is a
+// clause, `IsRing`: as a ghost field it would have to be truncated, and could not be opened for what holds data.
 #[derive(Clone, Copy)]
 pub struct Ring<'r> {
     net: &'r Network,
@@ -33,10 +33,11 @@ fn spot(net: &Network, u: usize, members: &[u16], spots: &mut [u16; 2048])
 }
 
 impl<'r> Ring<'r> {
-    // How far ahead a link from the member at `from` to w leads on a way back to u.
+    // How far ahead a link from the member at `from` to w leads on a way back to u; 0 if it leads on none. No `Option`: what
+    // is wanted of these is the greatest.
     fn link_reach(&self, far: &[u16; 2048], from: usize, w: usize) -> usize
         requires ringed { IsRing self.now }
-        requires reach { ReachFrom (graph_of self.now.net.now) self.now.u (at self.now.members.now) (length self.now.members.now) (at self.now.spots.now) (at far.now) (from + 1) }
+        requires reach { ReachesFrom self.now far.now (from + 1) }
         requires known { w < self.now.net.now.places }
         requires later { (q : ℕ) → 0 < q → q < length self.now.members.now → at self.now.members.now q ≡ w → from < q }
         ensures { LinkReach (graph_of self.now.net.now) self.now.u (length self.now.members.now) (at self.now.spots.now) w result }
@@ -55,7 +56,7 @@ impl<'r> Ring<'r> {
     // How far ahead the links of the member at `from` lead on a way back to u.
     fn reach_of(&self, far: &[u16; 2048], from: usize) -> usize
         requires ringed { IsRing self.now }
-        requires reach { ReachFrom (graph_of self.now.net.now) self.now.u (at self.now.members.now) (length self.now.members.now) (at self.now.spots.now) (at far.now) (from + 1) }
+        requires reach { ReachesFrom self.now far.now (from + 1) }
         requires within { from < length self.now.members.now }
         ensures { Reach (graph_of self.now.net.now) self.now.u (length self.now.members.now) (at self.now.spots.now) (at self.now.members.now from) result }
     {
@@ -70,7 +71,7 @@ impl<'r> Ring<'r> {
     // Writes the reach of each member, the last first.
     fn reaches(&self, far: &mut [u16; 2048])
         requires { IsRing self.now }
-        ensures { ReachFrom (graph_of self.now.net.now) self.now.u (at self.now.members.now) (length self.now.members.now) (at self.now.spots.now) (at far.new) 0 }
+        ensures { ReachesFrom self.now far.new 0 }
     {
         // By position: each reach is worked out from the later entries of the list that it joins.
         for q in (0..self.members.len()).rev() {
@@ -81,7 +82,7 @@ impl<'r> Ring<'r> {
     // The lowest of the members that hold u: nothing before such a member leads past it on a way back to u.
     fn lowest_member(&self, far: &[u16; 2048]) -> usize
         requires ringed { IsRing self.now }
-        requires reach { ReachFrom (graph_of self.now.net.now) self.now.u (at self.now.members.now) (length self.now.members.now) (at self.now.spots.now) (at far.now) 0 }
+        requires reach { ReachesFrom self.now far.now 0 }
         ensures { LowestTwin (graph_of self.now.net.now) self.now.u result }
     {
         let mut low = self.u;

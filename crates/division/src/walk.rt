@@ -1,4 +1,4 @@
-ghost use Rattle.std.specs.Prelude.{◌≡◌, ◌<◌, All};
+ghost use Rattle.std.specs.Prelude.{◌≡◌, ◌<◌, ◌&&◌, All, None, is_none, slice_index_or};
 
 use arrayvec::ArrayVec;
 use network::network::Network;
@@ -30,6 +30,7 @@ impl<'n> Walk<'n> {
     // Whether a place has no owner and was not met before.
     fn is_new(&self, owners: &[Option<u16>; 2048], place: u16) -> bool
         requires { place < self.now.net.now.places }
+        ensures { result ≡ (is_none (slice_index_or owners.now place None) && is_none (slice_index_or self.now.followed place None)) }
     {
         owners[place as usize].is_none() && self.followed[place as usize].is_none()
     }

@@ -45,6 +45,7 @@ impl Work {
         ensures known { (p : ℕ) → Waiting p self.old → IfSome result (λ v. v < p) }
         ensures value { result ≡ slice_get self.old.places.items self.old.next }
         ensures moved { IfSome result (λ v. self.new ≡ record self.old { next = self.old.next + 1 }) }
+        ensures within { IfSome result (λ v. self.old.next < 2048) }
         ensures none { IfNone result (self.new ≡ self.old) }
     {
         let place = *self.places.as_slice().get(self.next)?;

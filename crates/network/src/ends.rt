@@ -3,6 +3,7 @@ ghost use Rattle.arrayvec.specs.ArrayVec.{array_vec_len};
 ghost use Rattle.network.specs.Within.{Within};
 
 use arrayvec::ArrayVec;
+use std::alloc::AllocError;
 
 mod drawn;
 
@@ -22,4 +23,19 @@ pub struct Ends {
     pub links: ArrayVec<DrawnLink, 4096>,
     ghost sized: { (places ≤ 2048) × (array_vec_len links ≤ 4096) },
     ghost within: { Within places links.items },
+}
+
+impl Clone for Ends {
+    ghost use Rattle.std.specs.Prelude.{◌≡◌, ⊤};
+
+    ghost is_clone = { λ ends copy. (copy.places ≡ ends.places) × (copy.links.items ≡ ends.links.items) };
+
+    ghost is_infallible = { λ ends. ⊤ };
+
+    fn clone(&self) -> Result<Ends, AllocError> {
+        Ok(Ends {
+            places: self.places,
+            links: self.links.clone()?,
+        })
+    }
 }

@@ -1,4 +1,4 @@
-use Rattle.std.proofs.Common.{sym, subst}
+use Rattle.std.proofs.Common.{◌≡◌, sym, subst, ◌∙◌}
 use Rattle.network.proofs.Leaving.{leaving_small, leaving_place}
 use Rattle.division.specs.declared.work.Work.{Work}
 use Rattle.division.specs.Working.{Waiting}
@@ -15,7 +15,8 @@ pub loop-link-preserved : goal.loop-link-preserved
 loop-link-preserved c =
     let p = c.args.net.now.places in
     let known = leaving_place c.args.net.now c.args.u c.requires.place c.leaving-link-items.result.now c.leaving-link-items.ensures c.loop-link.link-index c.loop-link-test.true in
+    let both : Work → Type 0 = λ x. Waiting p x × (x.next ≡ c.args.work.now.next) in
     elim c.if-is_none.branch [
-      | then-is_none w ↦ subst (λ (x : Work). Waiting p x) (sym w.work-is) (w.meet.ensures.waiting p known c.loop-link.invariant)
-      | else-is_none w ↦ subst (λ (x : Work). Waiting p x) (sym w.work-is) c.loop-link.invariant
+      | then-is_none w ↦ subst both (sym w.work-is) (w.meet.ensures.waiting p known c.loop-link.invariant.0, w.meet.ensures.next ∙ c.loop-link.invariant.1)
+      | else-is_none w ↦ subst both (sym w.work-is) c.loop-link.invariant
     ]

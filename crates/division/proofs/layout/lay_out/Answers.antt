@@ -1,10 +1,12 @@
-use Rattle.std.proofs.Common.{Bor, ◌≡◌, ◌+◌, ◌<◌, ℕ, List, length, sym, ap, ◌∙◌, subst, arith, length-set}
+use Rattle.std.proofs.Common.{Bor, ◌≡◌, ◌+◌, ◌<◌, ◌≤◌, ℕ, List, length, sym, ap, ◌∙◌, subst, arith, length-set}
 use Rattle.network.specs.declared.network.Network.{Network}
 use Rattle.network.specs.Packed.{graph_of}
 use Rattle.network.proofs.Parts.{within}
 use Rattle.division.specs.Lists.{at}
 use Rattle.division.specs.Growing.{Grown}
 use Rattle.division.specs.Laying.{Stretched}
+use Rattle.division.specs.Divided.{TriggerEntries}
+use Rattle.division.specs.declared.answer.Stretch.{Stretch}
 use Rattle.division.proofs.Laid.{begins, ends, Laid, laid_skip, laid_room, laid_all, laid_same, turn_lays}
 use Rattle.division.proofs.layout.lay_out.Goals as goal
 use Rattle.division.proofs.layout.lay_out.Goals.{then-trigger-t, else-trigger-t}
@@ -13,45 +15,36 @@ use Rattle.division.proofs.layout.lay_out.Goals.{then-trigger-t, else-trigger-t}
 same_net : {a b : Bor Network} {t : ℕ} (members : List ℕ) → a ≡ b → Grown (graph_of a.now) t (at members) (length members) → Grown (graph_of b.now) t (at members) (length members)
 same_net {a} {b} {t} members e grown = subst (λ (r : Bor Network). Grown (graph_of r.now) t (at members) (length members)) e grown
 
+-- the members but the first fit between what is laid and the last entry
+fits : {a b : Bor Network} (was laid : List ℕ) (triggers : List ℕ) (stretches : List Stretch) {next t : ℕ} {members slice : List ℕ} →
+    length triggers ≡ b.now.places → TriggerEntries (graph_of b.now) triggers → t < length triggers → at triggers t ≡ t →
+    (a ≡ b) × Laid (graph_of b.now) (at was) (at laid) (begins stretches) (ends stretches) next t × (length stretches ≡ 2048) →
+    Grown (graph_of a.now) t (at members) (length members) → slice ≡ members → next + length slice ≤ b.now.places + 1
+fits {a} {b} was laid triggers stretches {next} {t} {members} {slice} long named lt own invariant grown same =
+    let g = graph_of b.now in
+    let here : t < b.now.places = omega (arith, lt, long) in
+    omega (arith, laid_room g (within b.now) (at was) (at laid) (begins stretches) (ends stretches) next t here invariant.1 (sym (named t here) ∙ own)
+        (at members) (length members) (same_net members invariant.0 grown), grown.begun, ap length same)
+
 pub write_stretch-requires-clause-room : goal.write_stretch-requires-clause-room
-write_stretch-requires-clause-room c =
-    let n = c.args.grower.now.net.now in
-    let here : c.loop-t.t < n.places = omega (arith, c.loop-t-test.true, c.requires.long) in
-    let long : length c.as_slice-members.result.now ≡ length c.grow.new.self.members.items = ap length c.as_slice-members.ensures.value in
-    let grown = same_net _ c.loop-t.invariant.0 c.grow.ensures.grown in
-    let room = laid_room (graph_of n) (within n) (at c.args.order.now) (at c.loop-t.order) (begins c.loop-t.stretches) (ends c.loop-t.stretches) c.loop-t.next c.loop-t.t
-    here c.loop-t.invariant.1 (sym (c.requires.named c.loop-t.t here) ∙ c.if-trigger-t.true) (at c.grow.new.self.members.items) (length c.grow.new.self.members.items) grown in
-    omega (arith, room, long, c.requires.room, grown.begun)
+write_stretch-requires-clause-room c = omega (arith, c.requires.room, c.args.grower.now.net.now.sized,
+    fits c.args.order.now c.loop-t.order c.args.triggers.now c.loop-t.stretches c.requires.long c.requires.named c.loop-t-test.true c.if-trigger-t.true c.loop-t.invariant c.grow.ensures.grown
+    c.as_slice-members.ensures.value)
 
 pub overflow_add-end : goal.overflow_add-end
-overflow_add-end c =
-    let n = c.args.grower.now.net.now in
-    let here : c.loop-t.t < n.places = omega (arith, c.loop-t-test.true, c.requires.long) in
-    let long : length c.as_slice-members.result.now ≡ length c.grow.new.self.members.items = ap length c.as_slice-members.ensures.value in
-    let grown = same_net _ c.loop-t.invariant.0 c.grow.ensures.grown in
-    let room = laid_room (graph_of n) (within n) (at c.args.order.now) (at c.loop-t.order) (begins c.loop-t.stretches) (ends c.loop-t.stretches) c.loop-t.next c.loop-t.t
-    here c.loop-t.invariant.1 (sym (c.requires.named c.loop-t.t here) ∙ c.if-trigger-t.true) (at c.grow.new.self.members.items) (length c.grow.new.self.members.items) grown in
-    omega (arith, room, long, n.sized)
+overflow_add-end c = omega (arith, c.requires.room, c.args.grower.now.net.now.sized,
+    fits c.args.order.now c.loop-t.order c.args.triggers.now c.loop-t.stretches c.requires.long c.requires.named c.loop-t-test.true c.if-trigger-t.true c.loop-t.invariant c.grow.ensures.grown
+    c.as_slice-members.ensures.value)
 
 pub overflow_cast-stretches : goal.overflow_cast-stretches
-overflow_cast-stretches c =
-    let n = c.args.grower.now.net.now in
-    let here : c.loop-t.t < n.places = omega (arith, c.loop-t-test.true, c.requires.long) in
-    let long : length c.as_slice-members.result.now ≡ length c.grow.new.self.members.items = ap length c.as_slice-members.ensures.value in
-    let grown = same_net _ c.loop-t.invariant.0 c.grow.ensures.grown in
-    let room = laid_room (graph_of n) (within n) (at c.args.order.now) (at c.loop-t.order) (begins c.loop-t.stretches) (ends c.loop-t.stretches) c.loop-t.next c.loop-t.t
-    here c.loop-t.invariant.1 (sym (c.requires.named c.loop-t.t here) ∙ c.if-trigger-t.true) (at c.grow.new.self.members.items) (length c.grow.new.self.members.items) grown in
-    omega (arith, room, long, n.sized)
+overflow_cast-stretches c = omega (arith, c.requires.room, c.args.grower.now.net.now.sized,
+    fits c.args.order.now c.loop-t.order c.args.triggers.now c.loop-t.stretches c.requires.long c.requires.named c.loop-t-test.true c.if-trigger-t.true c.loop-t.invariant c.grow.ensures.grown
+    c.as_slice-members.ensures.value)
 
 pub overflow_cast-stretches-then-trigger-t : goal.overflow_cast-stretches-then-trigger-t
-overflow_cast-stretches-then-trigger-t c =
-    let n = c.args.grower.now.net.now in
-    let here : c.loop-t.t < n.places = omega (arith, c.loop-t-test.true, c.requires.long) in
-    let long : length c.as_slice-members.result.now ≡ length c.grow.new.self.members.items = ap length c.as_slice-members.ensures.value in
-    let grown = same_net _ c.loop-t.invariant.0 c.grow.ensures.grown in
-    let room = laid_room (graph_of n) (within n) (at c.args.order.now) (at c.loop-t.order) (begins c.loop-t.stretches) (ends c.loop-t.stretches) c.loop-t.next c.loop-t.t
-    here c.loop-t.invariant.1 (sym (c.requires.named c.loop-t.t here) ∙ c.if-trigger-t.true) (at c.grow.new.self.members.items) (length c.grow.new.self.members.items) grown in
-    omega (arith, room, long, n.sized)
+overflow_cast-stretches-then-trigger-t c = omega (arith, c.requires.room, c.args.grower.now.net.now.sized,
+    fits c.args.order.now c.loop-t.order c.args.triggers.now c.loop-t.stretches c.requires.long c.requires.named c.loop-t-test.true c.if-trigger-t.true c.loop-t.invariant c.grow.ensures.grown
+    c.as_slice-members.ensures.value)
 
 pub loop-t-preserved : goal.loop-t-preserved
 loop-t-preserved c =

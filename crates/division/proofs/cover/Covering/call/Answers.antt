@@ -27,5 +27,5 @@ returns-then-is_none-clause-underway c =
     record {
       called = called_more (graph_of n) (within n) c.args.v c.requires.place (at c.grow.new.self.members.items) (length c.grow.new.self.members.items)
           (owner_at c.args.self.now.owners) (owner_at c.assign.new.owners) c.requires.underway.called c.grow.ensures.grown over (is_none_none _ c.if-is_none.ensures);
-      waiting = subst (λ (p : ℕ). Waiting p c.meet_border.new.work) (ap (λ r. r.now.places) c.grow.ensures.net) c.meet_border.ensures;
+      waiting = subst (λ (p : ℕ). Waiting p c.meet_border.new.work) (ap (λ r. r.now.places) c.grow.ensures.net) c.meet_border.ensures.waiting;
     }
