@@ -31,6 +31,7 @@ fn assign(members: &[u16], v: usize, owners: &mut [Option<u16>; 2048])
 
 // Has the places wait that a link from u leads to and that have no owner.
 fn meet_heads(net: &Network, u: usize, owners: &[Option<u16>; 2048], work: &mut Work)
+    // A place is a number: no type says of which network.
     requires place { u < net.now.places }
     requires waiting { Waiting net.now.places work.old }
     ensures waiting { Waiting net.now.places work.new }

@@ -23,6 +23,7 @@ pub struct Ring<'r> {
 
 // Writes the position of each member.
 fn spot(net: &Network, u: usize, members: &[u16], spots: &mut [u16; 2048])
+    // A place is a number: no type says of which network.
     requires place { u < net.now.places }
     requires grown { Grown (graph_of net.now) u (at members.now) (length members.now) }
     ensures { Spotted (at members.now) (length members.now) (at spots.new) }

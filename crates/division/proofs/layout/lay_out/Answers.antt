@@ -23,28 +23,33 @@ fits : {a b : Bor Network} (was laid : List ℕ) (triggers : List ℕ) (stretche
 fits {a} {b} was laid triggers stretches {next} {t} {members} {slice} long named lt own invariant grown same =
     let g = graph_of b.now in
     let here : t < b.now.places = omega (arith, lt, long) in
-    omega (arith, laid_room g (within b.now) (at was) (at laid) (begins stretches) (ends stretches) next t here invariant.1 (sym (named t here) ∙ own)
-        (at members) (length members) (same_net members invariant.0 grown), grown.begun, ap length same)
+    let room = laid_room g (within b.now) (at was) (at laid) (begins stretches) (ends stretches) next t here invariant.1 (sym (named t here) ∙ own)
+    (at members) (length members) (same_net members invariant.0 grown) in
+    omega (arith, room, grown.begun, ap length same)
 
 pub write_stretch-requires-clause-room : goal.write_stretch-requires-clause-room
-write_stretch-requires-clause-room c = omega (arith, c.requires.room, c.args.grower.now.net.now.sized,
-    fits c.args.order.now c.loop-t.order c.args.triggers.now c.loop-t.stretches c.requires.long c.requires.named c.loop-t-test.true c.if-trigger-t.true c.loop-t.invariant c.grow.ensures.grown
-    c.as_slice-members.ensures.value)
+write_stretch-requires-clause-room c =
+    let room = fits c.args.order.now c.loop-t.order c.args.triggers.now c.loop-t.stretches c.requires.long c.requires.named c.loop-t-test.true c.if-trigger-t.true
+    c.loop-t.invariant c.grow.ensures.grown c.as_slice-members.ensures.value in
+    omega (arith, room, c.requires.room)
 
 pub overflow_add-end : goal.overflow_add-end
-overflow_add-end c = omega (arith, c.requires.room, c.args.grower.now.net.now.sized,
-    fits c.args.order.now c.loop-t.order c.args.triggers.now c.loop-t.stretches c.requires.long c.requires.named c.loop-t-test.true c.if-trigger-t.true c.loop-t.invariant c.grow.ensures.grown
-    c.as_slice-members.ensures.value)
+overflow_add-end c =
+    let room = fits c.args.order.now c.loop-t.order c.args.triggers.now c.loop-t.stretches c.requires.long c.requires.named c.loop-t-test.true c.if-trigger-t.true
+    c.loop-t.invariant c.grow.ensures.grown c.as_slice-members.ensures.value in
+    omega (arith, room, c.args.grower.now.net.now.sized)
 
 pub overflow_cast-stretches : goal.overflow_cast-stretches
-overflow_cast-stretches c = omega (arith, c.requires.room, c.args.grower.now.net.now.sized,
-    fits c.args.order.now c.loop-t.order c.args.triggers.now c.loop-t.stretches c.requires.long c.requires.named c.loop-t-test.true c.if-trigger-t.true c.loop-t.invariant c.grow.ensures.grown
-    c.as_slice-members.ensures.value)
+overflow_cast-stretches c =
+    let room = fits c.args.order.now c.loop-t.order c.args.triggers.now c.loop-t.stretches c.requires.long c.requires.named c.loop-t-test.true c.if-trigger-t.true
+    c.loop-t.invariant c.grow.ensures.grown c.as_slice-members.ensures.value in
+    omega (arith, room, c.args.grower.now.net.now.sized)
 
 pub overflow_cast-stretches-then-trigger-t : goal.overflow_cast-stretches-then-trigger-t
-overflow_cast-stretches-then-trigger-t c = omega (arith, c.requires.room, c.args.grower.now.net.now.sized,
-    fits c.args.order.now c.loop-t.order c.args.triggers.now c.loop-t.stretches c.requires.long c.requires.named c.loop-t-test.true c.if-trigger-t.true c.loop-t.invariant c.grow.ensures.grown
-    c.as_slice-members.ensures.value)
+overflow_cast-stretches-then-trigger-t c =
+    let room = fits c.args.order.now c.loop-t.order c.args.triggers.now c.loop-t.stretches c.requires.long c.requires.named c.loop-t-test.true c.if-trigger-t.true
+    c.loop-t.invariant c.grow.ensures.grown c.as_slice-members.ensures.value in
+    omega (arith, room, c.args.grower.now.net.now.sized)
 
 pub loop-t-preserved : goal.loop-t-preserved
 loop-t-preserved c =
