@@ -72,12 +72,12 @@ def twins():
                     yield f'{name} ~ {other}'
 
 
-def repeated_facts():
+def repeated_facts(clause):
     count = collections.Counter()
     for _, _, _, _, clauses, _ in functions():
-        for fact in {re.sub(r'^requires( \w+)? ', '', c) for c in clauses if c.startswith('requires')}:
+        for fact in {re.sub(rf'^{clause}s( \w+)? ', '', c) for c in clauses if c.startswith(clause)}:
             count[fact] += 1
-    return (f'{n} functions require {fact}' for fact, n in count.most_common() if n >= 3)
+    return (f'{n} functions {clause} {fact}' for fact, n in count.most_common() if n >= 3)
 
 
 def main():
@@ -87,7 +87,8 @@ def main():
     section('2. functions of one shape', twins())
     section('3. while loops and ranges', matching(r'\bwhile |\bfor \w+ in [^{]*\.\.'))
     section('4. equality, order, conversion and words by hand', matching(r'fn (less|before|is_below|cheaper|sooner|same_cost|same_pair|is_number|number|code|said|named_signal|\w+_words|seen_of_offer|word_at|long_at)\b'))
-    section('5. facts that three or more functions require', repeated_facts())
+    section('5. facts that three or more functions require', repeated_facts('require'))
+    section('5. facts that three or more functions ensure', repeated_facts('ensure'))
     section('5. functions of five or more parameters', (f'{p}:{n} {name}({", ".join(a)})' for p, n, name, a, _, _ in functions() if len(a) >= 5))
     section('6. tables, and lengths beside them', matching(r'^ +(pub )?\w+: (&(\'a )?(mut )?)?\[[^\]]+\],?$|^ +(pub )?(len|end|count|depth|links|next|standing): usize,?$|: &(mut )?\[\w+; \d+\]'))
     section('7. switches', matching(r'fn\(|&dyn|Box<dyn|match (choice|change|kind|letter|line\[0\])|if choice'))
