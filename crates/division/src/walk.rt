@@ -4,7 +4,7 @@ use arrayvec::ArrayVec;
 use network::network::Network;
 
 // A depth-first walk over the places that have no owner. Of each place that it has met it knows how many of its links it
-// has followed. A place that it leaves joins the list `left`.
+// has followed. A place that it leaves joins the list `left`. As with a grower, each call says that the network stays.
 #[derive(Drop)]
 pub struct Walk<'n> {
     net: &'n Network,
