@@ -10,7 +10,7 @@ pub struct Plain<'a, C> {
     takes: u32,
 }
 
-// Whether `a` leaves before `b`.
+// Whether `a` leaves before `b`: a second way beside `before`, on purpose, since the trials compare the two.
 fn sooner<K: Kind>(a: (u32, K::Cost), b: (u32, K::Cost)) -> bool {
     K::less(a.1, b.1) || !K::less(b.1, a.1) && a.0 < b.0
 }

@@ -43,8 +43,8 @@ fn is_take(choice: u32) -> bool {
     }
 }
 
-// Makes one call on both queues and on the list. None, if they answered differently. Which call it is, is drawn; each has
-// an answer of its own, so no closure serves for all.
+// Makes one call on both queues and on the list. None, if they answered differently. The calls answer with different
+// types, so the choice is an `if`: no one closure could stand for all of them.
 fn one_step<K: Kind, A: Queue<K>, B: Queue<K>>(
     a: &mut A,
     b: &mut B,

@@ -8,8 +8,9 @@ use super::entry::{Entry, is_below};
 use super::refusal::OfferRefusal;
 use kinds::kind::Kind;
 
-// A lent list, and what a queue keeps beside it: the first `waiting` entries have the items that wait. That they are no
-// more than the list is no ghost field: through a struct that has one, a queue cannot lend the list that lies in it.
+// A lent list, and what a queue keeps beside it: the first `waiting` entries have the items that wait.
+// That they are no more than the list was tried as a ghost field: the check does not cover lending the list through a
+// struct that has one and lies in another.
 #[derive(Drop)]
 pub struct Lent<'a, C> {
     pub entries: &'a mut [Entry<C>],

@@ -13,7 +13,8 @@ pub trait Queue<K: Kind> {
     // What the queue means.
     ghost state: { Self → State K.Cost };
 
-    // The queue is well kept: making and clearing give this, every call keeps it.
+    // The queue is well kept: making and clearing give this, every call keeps it. A member, and no ghost field: it goes by
+    // the kind, which a queue's type does not name.
     ghost kept: { Self → Type 0 };
 
     // Leaves nothing waiting, no floor and no takes, from any state.

@@ -1,6 +1,7 @@
 ghost use Rattle.std.specs.Prelude.{◌≡◌, Some};
 ghost use Rattle.queues.specs.Refusals.{number, said};
 
+use std::error::Error;
 use std::fmt;
 use std::fmt::{Display, Formatter, Write};
 
@@ -30,3 +31,5 @@ impl Display for OfferRefusal {
         }
     }
 }
+
+impl Error for OfferRefusal {}
