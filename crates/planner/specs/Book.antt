@@ -34,9 +34,9 @@ refusal n b (Close k) = if nat_le n.links k then Some UnknownNumber else if is_c
 refusal n b (Reopen k) = if nat_le n.links k then Some UnknownNumber else if is_closed b k then None else Some AlreadySo
 
 -- the call that closes a link, or reopens it
-abbrev pub turned : Bool → ℕ → Change
-turned true k = Close k
-turned false k = Reopen k
+abbrev pub closing : Bool → ℕ → Change
+closing true k = Close k
+closing false k = Reopen k
 
 -- what an accepted change writes
 abbrev pub written : Book → Change → Book

@@ -1,5 +1,5 @@
 ghost use Rattle.std.specs.Prelude.{◌≡◌, ◌<◌, ◌≤◌, IfOk, IfErr};
-ghost use Rattle.planner.specs.Book.{blank, has_station, turned};
+ghost use Rattle.planner.specs.Book.{blank, has_station, closing};
 ghost use Rattle.planner.specs.State.{book, Makes};
 
 use super::Planner;
@@ -80,8 +80,8 @@ impl<'a> Planner<'a> {
     }
 
     // Closes a link, or reopens it.
-    fn turn(&mut self, link: u32, closed: bool) -> Result<(), Refusal>
-        ensures { Makes self.old self.new (turned closed link) result }
+    fn set_closed(&mut self, link: u32, closed: bool) -> Result<(), Refusal>
+        ensures { Makes self.old self.new (closing closed link) result }
     {
         let at = known(link, self.map.counts().links)?;
         if self.closed[at] == closed {
@@ -96,13 +96,13 @@ impl<'a> Planner<'a> {
     pub fn close(&mut self, link: u32) -> Result<(), Refusal>
         ensures { Makes self.old self.new (Change.Close link) result }
     {
-        self.turn(link, true)
+        self.set_closed(link, true)
     }
 
     // Reopens a link.
     pub fn reopen(&mut self, link: u32) -> Result<(), Refusal>
         ensures { Makes self.old self.new (Change.Reopen link) result }
     {
-        self.turn(link, false)
+        self.set_closed(link, false)
     }
 }
