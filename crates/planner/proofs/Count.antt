@@ -1,5 +1,7 @@
 -- The number of stations as one place changes.
-use Rattle.std.proofs.Common.{◌≡◌, ℕ, zero, suc, ◌+◌, ◌<◌, true, false, cond, List, [], ◌∷◌, length, get_or, set, is_some, Some, None, Option, arith}
+use Rattle.std.proofs.Common.{◌≡◌, ℕ, zero, suc, ◌+◌, ◌<◌, true, false, cond, List, [], ◌∷◌, length, get_or, set, is_some, Some, None, Option, ap, arith}
+use Rattle.mapfile.specs.declared.counts.Counts.{Counts}
+use Rattle.planner.specs.declared.planner.Planner.{Planner}
 use Rattle.planner.specs.Stations.{stationed}
 
 abbrev one : Option ℕ → ℕ
@@ -18,3 +20,7 @@ replaced ss i n u h e g = let r : stationed (set ss i (Some u)) + cond true 1 0 
 
 pub placed : (ss : List (Option ℕ)) (i n u : ℕ) → i < length ss → n ≡ stationed ss → is_some (get_or ss i None) ≡ false → n + 1 ≡ stationed (set ss i (Some u))
 placed ss i n u h e g = let r : stationed (set ss i (Some u)) + cond false 1 0 ≡ stationed ss + 1 = rw g at (stationed_set ss i (Some u) h) in omega (arith, r)
+
+-- a place of the map has an entry in the table of stations
+pub in_table : (p : Planner) (n : Counts) (i place : ℕ) → n ≡ p.map.counts → (i ≡ place) × (place < n.places) → i < length p.stations
+in_table p n i place e h = omega (arith, ap (λ m. m.places) e, h, p.map.sized, p.sized)
