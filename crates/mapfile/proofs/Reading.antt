@@ -1,5 +1,5 @@
 -- A file's checks, one part after the other.
-use Rattle.std.proofs.Common.{◌≡◌, ℕ, List, ◌++◌, Ok, Err, sym, ap, ◌∙◌}
+use Rattle.std.proofs.Common.{◌≡◌, ℕ, List, ◌++◌, Ok, Err, Result, sym, ap, ◌∙◌}
 use Rattle.mapfile.specs.declared.body.BodyKind.{BodyKind}
 use Rattle.mapfile.specs.declared.body.BodyKind.TheVariants.{Places, Links, Signals}
 use Rattle.mapfile.specs.declared.counts.Counts.{Counts}
@@ -11,9 +11,11 @@ use Rattle.mapfile.specs.File.{checks, rest_checks}
 use Rattle.mapfile.specs.Layout.{counts}
 use Rattle.mapfile.proofs.Lists.{answer_next, answer_stops, err_any, kept_of_ok, ok_of_kept, told_of_ok}
 
--- the bodies of a file that is read as it stands
-pub body_same : (f g : List ℕ) (n m : Counts) (k : BodyKind) → g ≡ f → m ≡ n → answer (body_checks (body_of g m k) m) (tt {0}) ≡ answer (body_checks (body_of f n k) n) (tt {0})
-body_same f g n m k e h = rw (e, h)
+-- the answer to a body of a file that is read as it stands
+pub body_told : {f g : List ℕ} {n m : Counts} {r s : Result (Unit {0}) Fault} (k : BodyKind) → g ≡ f → m ≡ n → r ≡ answer (body_checks (body_of g m k) m) (tt {0}) → r ≡ s → answer (body_checks (body_of f n k) n) (tt {0}) ≡ s
+body_told {f} {g} {n} {m} {r} {s} k e h told was =
+    let same : answer (body_checks (body_of g m k) m) (tt {0}) ≡ answer (body_checks (body_of f n k) n) (tt {0}) = rw (e, h) in
+    sym same ∙ sym told ∙ was
 
 pub contents_stop : (f : List ℕ) (e : Fault) → answer (contents_checks f) (counts f) ≡ Err e → answer (checks f) (counts f) ≡ Err e
 unfolding checks

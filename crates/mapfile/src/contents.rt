@@ -48,6 +48,7 @@ pub fn check_contents(file: &[u8]) -> Result<Counts, Fault>
     if file[1] != 3 {
         return Err(Breach::Contents.at(1));
     }
+    // `Counts::start` cannot say where a body is due: the counts of the kinds that follow are not known there yet.
     let places = check_line(file, BodyKind::Places, 26)?;
     let links = check_line(file, BodyKind::Links, 26 + 4 * places)?;
     let signals = check_line(file, BodyKind::Signals, 26 + 4 * places + 12 * links)?;

@@ -31,8 +31,10 @@ impl Counts {
     {
         match kind {
             BodyKind::Places => 26,
-            BodyKind::Links => 26 + 4 * self.places,
-            BodyKind::Signals => 26 + 4 * self.places + 12 * self.links,
+            BodyKind::Links => 26 + BodyKind::Places.size() * self.places,
+            BodyKind::Signals => {
+                26 + BodyKind::Places.size() * self.places + BodyKind::Links.size() * self.links
+            }
         }
     }
 
@@ -41,6 +43,6 @@ impl Counts {
         requires { Limited self }
         ensures { result ≡ end self }
     {
-        self.start(BodyKind::Signals) + 8 * self.signals
+        self.start(BodyKind::Signals) + BodyKind::Signals.size() * self.signals
     }
 }
