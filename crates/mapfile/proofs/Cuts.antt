@@ -3,6 +3,7 @@ use Rattle.std.proofs.Common.{◌≡◌, ℕ, ◌+◌, ◌-◌, ◌*◌, ◌<◌
 use Rattle.std.proofs.Math.Seq.{take-append_seam, drop-append_seam}
 use Rattle.mapfile.specs.declared.body.BodyKind.{BodyKind}
 use Rattle.mapfile.specs.declared.body.BodyKind.TheVariants.{Places, Links, Signals}
+use Rattle.mapfile.specs.declared.body.Part.{Part}
 use Rattle.mapfile.specs.declared.counts.Counts.{Counts}
 use Rattle.mapfile.specs.declared.fault.Fault.{Fault}
 use Rattle.mapfile.specs.Bodies.{Shown, body_of, record_at, key, key_before, record_checks, nth, body_checks}
@@ -25,6 +26,10 @@ pub record Checked (s : Shown) (n : Counts) (i before : ℕ) (rest : List ℕ) (
   pub left : rest ≡ drop (size s.kind * i) s.bytes
   pub whole : cut ≡ size s.kind
 
+-- a part, as the body of a kind
+abbrev pub part_shown : BodyKind → Part → Shown
+part_shown k p = record { kind = k; first = p.first; bytes = p.bytes.now }
+
 -- a record more lies within the body, or none
 more : (k : BodyKind) (i m : ℕ) → size k ≤ size k * m - size k * i → i < m
 more Places i m h = omega arith
@@ -35,6 +40,9 @@ none : (k : BodyKind) (i m : ℕ) → i ≤ m → size k * m - size k * i < size
 none Places i m l h = omega arith
 none Links i m l h = omega arith
 none Signals i m l h = omega arith
+
+record_start : (k j : BodyKind) (first step i m : ℕ) → step ≡ size j → j ≡ k → m ≡ i → first + step * m ≡ first + size k * i
+record_start k j first step i m h e q = rw (h, e, q)
 
 module _ (s : Shown) (n : Counts) (i before : ℕ) (rest : List ℕ) (cut : ℕ) (h : Checked s n i before rest cut) where
   length_left : length rest ≡ size s.kind * count n s.kind - size s.kind * i
@@ -63,7 +71,14 @@ module _ (s : Shown) (n : Counts) (i before : ℕ) (rest : List ℕ) (cut : ℕ)
     below : i < count n s.kind
     below = more s.kind i (count n s.kind) (omega (arith, length_left, ap length parts, length-append x after, cut_off, h.whole))
 
-    module _ (at : ℕ) (e : at ≡ s.first + size s.kind * i) where
+    -- the loop counts its records by a step of the record's size
+    module _ (j : BodyKind) (step m : ℕ) (sized : step ≡ size j) (same_kind : j ≡ s.kind) (counted : m ≡ i) where
+      abbrev at : ℕ
+      at = s.first + step * m
+
+      e : at ≡ s.first + size s.kind * i
+      e = record_start s.kind j s.first step i m sized same_kind counted
+
       -- its checks are those of the i-th record
       checks_are : {A : Type 0} (a : A) → answer (record_checks s.kind x at n before) a ≡ answer (checks_at s n i) a
       checks_are a =
@@ -88,9 +103,6 @@ module _ (s : Shown) (n : Counts) (i before : ℕ) (rest : List ℕ) (cut : ℕ)
             whole = same ∙ h.whole;
           }
 
--- a part is the body of its kind, and where its records start
-pub part_is : (f : List ℕ) (n : Counts) (k j : BodyKind) (first : ℕ) (b : List ℕ) → j ≡ k → first ≡ start n j → b ≡ part f (start n j) (size j * count n j) → ◌≡◌ {A = Shown} (record { kind = k; first = first; bytes = b }) (body_of f n k)
-part_is f n k j first b e h q = rw (h, q, e)
-
-pub record_starts : (k j : BodyKind) (first cut i m : ℕ) → cut ≡ size j → j ≡ k → m ≡ i → first + cut * m ≡ first + size k * i
-record_starts k j first cut i m h e q = rw (h, e, q)
+-- a part is the body of its kind
+pub part_is : (f : List ℕ) (n : Counts) (k j : BodyKind) (p : Part) → j ≡ k → p.first ≡ start n j → p.bytes.now ≡ part f (start n j) (size j * count n j) → part_shown k p ≡ body_of f n k
+part_is f n k j p e h q = rw (h, q, e)

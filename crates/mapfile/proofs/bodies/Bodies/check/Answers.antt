@@ -1,37 +1,34 @@
 use Rattle.std.proofs.Common.{sym, ap, ◌∙◌}
-use Rattle.std.specs.Iterator.Adapters.{enumerate_count}
-use Rattle.mapfile.specs.Bodies.{Shown, body_checks}
+use Rattle.mapfile.specs.Bodies.{body_checks}
 use Rattle.mapfile.specs.Checks.{answer}
 use Rattle.mapfile.proofs.Lists.{passed_on}
-use Rattle.mapfile.proofs.Cuts.{all_kept, first_broken, one_more, part_is, record_starts}
+use Rattle.mapfile.proofs.Cuts.{all_kept, first_broken, one_more, part_is, part_shown}
 use Rattle.mapfile.proofs.bodies.Bodies.check.Goals as goal
 
 pub loop-i-preserved : goal.loop-i-preserved
 loop-i-preserved g c =
-    let k = g.R.Record.KIND in
-    let s : Shown = record { kind = k; first = c.part-part.result.first; bytes = c.part-part.result.bytes.now } in
+    let s = part_shown g.R.Record.KIND c.part-part.result in
     let step = c.in-Some.ensures.steps in
-    let at = record_starts k c.KIND-2.result s.first c.size-size.result (enumerate_count c.loop-i.i-iterator) c.in-Some.i c.size-size.ensures c.KIND-2.ensures step.1 in
     let kept = sym c.check.ensures ∙ c.in_ok-before.was in (
       c.in-Some.ensures.goes.keeps,
       (c.in-Some.ensures.goes.on c.loop-i.invariant.1).1,
-      one_more s c.args.self.now.counts _ _ _ _ c.loop-i.invariant.2 _ _ step.0.1.0 step.0.1.1 _ at _ _ _ kept step.2 step.0.0,
+      one_more s c.args.self.now.counts _ _ _ _ c.loop-i.invariant.2 _ _ step.0.1.0 step.0.1.1 _ _ _ c.size-size.ensures c.KIND-2.ensures step.1 _ _ _ kept step.2 step.0.0,
     )
 
 pub returns-in_err-before : goal.returns-in_err-before
 returns-in_err-before g c =
     let k = g.R.Record.KIND in
     let n = c.args.self.now.counts in
-    let s : Shown = record { kind = k; first = c.part-part.result.first; bytes = c.part-part.result.bytes.now } in
+    let p = c.part-part in
     let step = c.in-Some.ensures.steps in
-    let at = record_starts k c.KIND-2.result s.first c.size-size.result (enumerate_count c.loop-i.i-iterator) c.in-Some.i c.size-size.ensures c.KIND-2.ensures step.1 in
-    let broken = first_broken s n _ _ _ _ c.loop-i.invariant.2 _ _ step.0.1.0 step.0.1.1 _ at _ _ (sym c.check.ensures ∙ c.in_err-before.was) in
-    let e = part_is c.args.self.now.file.now n k c.KIND.result s.first s.bytes c.KIND.ensures c.part-part.ensures.first c.part-part.ensures.bytes in
+    let broken = first_broken (part_shown k p.result) n _ _ _ _ c.loop-i.invariant.2 _ _ step.0.1.0 step.0.1.1 _ _ _ c.size-size.ensures c.KIND-2.ensures step.1 _ _ (sym c.check.ensures ∙ c.in_err-before.was) in
+    let e = part_is c.args.self.now.file.now n k c.KIND.result p.result c.KIND.ensures p.ensures.first p.ensures.bytes in
     passed_on _ _ _ c.from_residual.ensures.1 (sym (ap (λ t. answer (body_checks t n) (tt {0})) e) ∙ broken)
 
 pub returns : goal.returns
 returns g c =
     let n = c.args.self.now.counts in
-    let s : Shown = record { kind = g.R.Record.KIND; first = c.part-part.result.first; bytes = c.part-part.result.bytes.now } in
-    let e = part_is c.args.self.now.file.now n g.R.Record.KIND c.KIND.result s.first s.bytes c.KIND.ensures c.part-part.ensures.first c.part-part.ensures.bytes in
+    let p = c.part-part in
+    let s = part_shown g.R.Record.KIND p.result in
+    let e = part_is c.args.self.now.file.now n g.R.Record.KIND c.KIND.result p.result c.KIND.ensures p.ensures.first p.ensures.bytes in
     all_kept s n _ _ _ _ c.loop-i.invariant.2 c.in-None.ensures.steps.0.1.0 ∙ ap (λ t. answer (body_checks t n) (tt {0})) e
