@@ -1,5 +1,5 @@
 -- A lent list: its state, and what the tests of an offer tell.
-use Rattle.std.proofs.Common.{◌≡◌, ℕ, ◌<◌, Bool, true, false, cond, eqb, ◌⊎◌, length, Some, None, Ok, Err, Option, Result, option_and_then, sym, refl, subst, inl, inr}
+use Rattle.std.proofs.Common.{◌≡◌, ℕ, ◌<◌, Bool, true, false, cond, eqb, ◌⊎◌, length, Some, None, Ok, Err, Option, Result, option_and_then, sym, refl, ◌∙◌, subst, inl, inr}
 use Rattle.std.proofs.lemmas.Bool.{eqb-true, eqb-false}
 use Rattle.queues.specs.declared.lent.Lent.{Lent}
 use Rattle.queues.specs.declared.refusal.OfferRefusal.{OfferRefusal}
@@ -60,9 +60,9 @@ pub record Goes {C : Type 0} (less : C → C → Bool) (q : Lent C) (n : ℕ) (c
   pub way : Lowers less q n c place ⊎ Adds q n place
 
 -- an offer that is admitted, of a number that is looked for
-module _ {C : Type 0} (less : C → C → Bool) (q : Lent C) (n : ℕ) (c : C) (tidy : LentTidy q) (u : Unit {0}) (passed : Ok u ≡ admitted less q c) where
+module _ {C : Type 0} (less : C → C → Bool) (q : Lent C) (n : ℕ) (c : C) (tidy : LentTidy q) (admit : Result (Unit {0}) OfferRefusal) (u : Unit {0}) (told : admit ≡ admitted less q c) (passed : admit ≡ Ok u) where
   high : below less (lent_state q).floor c ≡ false
-  high = high_told (below less (lent_state q).floor c) u passed
+  high = high_told (below less (lent_state q).floor c) u (sym passed ∙ told)
 
   pub place_refused : (found : Option ℕ) (e : OfferRefusal) → Found (item q.entries.now) n q.waiting found → Err e ≡ place_of less q found c → Offered less (lent_state q) n c (Err e) (lent_state q)
   place_refused (Some k) e is h = cc
