@@ -37,6 +37,7 @@ fn delays(rt: HostRuntime) {
     let expected = [
         0, 0, 10, 15, 20, 25, 30, 40, 45, 50, 60, 70, 80, 90, 100, 120,
     ];
+    // By enumerate and a cast: of numbers zipped with the list the check does not find that they are at most 15.
     for (class, delay) in expected.iter().enumerate() {
         let link = Link {
             from: 0,

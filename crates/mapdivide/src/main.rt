@@ -40,6 +40,7 @@ fn repeats(rt: &HostRuntime) -> io::Result<u32> {
 }
 
 fn main(rt: HostRuntime) -> io::Result<()> {
+    // The start is runplan's too: a map borrows its file, so no function hands out both.
     let file = map_file(&rt);
     let mut map = Map::empty();
     if let Err(fault) = map.read(file.as_slice()) {

@@ -9,6 +9,7 @@ use planner::planner::Planner;
 use std::io;
 
 fn main(rt: HostRuntime) -> io::Result<()> {
+    // The start is mapdivide's too: a map borrows its file, so no function hands out both.
     let file = map_file(&rt);
     let mut map = Map::empty();
     if let Err(fault) = map.read(file.as_slice()) {

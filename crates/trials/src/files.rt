@@ -1,5 +1,8 @@
 use std::alloc::{AllocError, Global};
 
+// A link's signal number where it has none.
+const NO_SIGNAL: u16 = 65535;
+
 // Numbers of two bytes, least byte first.
 fn words(file: &mut Vec<u8>, words: &[u16]) -> Result<(), AllocError> {
     for word in words {
@@ -25,7 +28,7 @@ fn contents(file: &mut Vec<u8>, places: u16, links: u16, signals: u16) -> Result
 
 // A link with a running time, without class, signal and grade.
 pub fn plain_link(file: &mut Vec<u8>, from: u16, to: u16, run: u16) -> Result<(), AllocError> {
-    words(file, &[from, to, run, 0, 65535, 0])
+    words(file, &[from, to, run, 0, NO_SIGNAL, 0])
 }
 
 // The contents and places of a map, for its links and signals to follow.
@@ -41,7 +44,7 @@ pub fn begun(heap: Global, places: u16, links: u16, signals: u16) -> Result<Vec<
 // A link that leads back to its start, with a signal if there are any.
 fn link(file: &mut Vec<u8>, number: u16, places: u16, signals: u16) -> Result<(), AllocError> {
     let place = number.min(places.saturating_sub(1));
-    let signal = number.checked_rem(signals).unwrap_or(65535);
+    let signal = number.checked_rem(signals).unwrap_or(NO_SIGNAL);
     words(file, &[place, place, number, number % 16, signal, 1000])
 }
 
