@@ -74,7 +74,8 @@ fn put_back_heads(net: &Network, u: usize, full: &[u16; 2048], left: &mut [u16; 
     }
 }
 
-// Puts every counter back that a growth counted down.
+// Puts every counter back that a growth counted down. What else members are is said where they grew, by `Grown`; here and
+// where owners are written it is enough that they are places.
 fn put_back(net: &Network, members: &[u16], full: &[u16; 2048], left: &mut [u16; 2048])
     requires places { (q : ℕ) → q < length members.now → at members.now q < net.now.places }
     requires full { Full (graph_of net.now) (at full.now) }

@@ -9,7 +9,8 @@ use super::answer::Stretch;
 use super::growth::Grower;
 use network::network::Network;
 
-// Writes the members but the first, from a position of the order list on.
+// Writes the members but the first, from a position of the order list on. By position: going over both lists at once
+// needs an invariant over two iterators, which is longer than the loop.
 fn write_stretch(members: &[u16], order: &mut [u32], from: usize)
     requires some { 0 < length members.now }
     requires room { from + length members.now ≤ length order.old + 1 }
@@ -20,7 +21,7 @@ fn write_stretch(members: &[u16], order: &mut [u32], from: usize)
     }
 }
 
-// The number of places that are their own trigger.
+// The number of places that are their own trigger. The list is a caller's: its length was looked at once, in `divide`.
 pub fn count_triggers(net: &Network, triggers: &[u32]) -> u32
     requires long { length triggers.now ≡ net.now.places }
     requires named { TriggerEntries (graph_of net.now) triggers.now }

@@ -12,7 +12,8 @@ use super::growth::Grower;
 use network::network::Network;
 
 // The members of u's structure, u first, and the position of each; u is approached, from among them only. That is a
-// clause, `IsRing`: as a ghost field it would have to be truncated, and could not be opened for what holds data.
+// clause, `IsRing`: as a ghost field it would have to be truncated, and could not be opened for what holds data. So is what
+// `far` holds, `ReachesFrom`: that table is no part of a ring.
 #[derive(Clone, Copy)]
 pub struct Ring<'r> {
     net: &'r Network,
@@ -88,6 +89,7 @@ impl<'r> Ring<'r> {
     {
         let mut low = self.u;
         let mut top = 0;
+        // The second list is read by position, as in `write_triggers`.
         for (k, member) in self.members.iter().enumerate() {
             if top <= k {
                 low = low.min(*member as usize);
@@ -124,7 +126,8 @@ pub fn lowest_twin(
     ring.lowest_member(far)
 }
 
-// For each owner the lowest place whose complete structure is the owner's.
+// For each owner the lowest place whose complete structure is the owner's: a table of its own, as the owners are read
+// while it is written.
 fn name_owners(grower: &mut Grower<'_>, owners: &[Option<u16>; 2048]) -> [u16; 2048]
     ensures net { grower.new.net ≡ grower.old.net }
     ensures named { Named (graph_of grower.old.net.now) (owner_at owners.now) (at result) grower.old.net.now.places }
@@ -152,6 +155,7 @@ fn write_triggers(
     requires long { length triggers.old ≡ net.now.places }
     ensures { TriggerEntries (graph_of net.now) triggers.new }
 {
+    // The owners are read by position: `zip` was tried, and needs an invariant over two iterators.
     for (w, trigger) in triggers.iter_mut().enumerate() {
         let owner = owners[w].unwrap();
         *trigger = u32::from(names[owner as usize]);

@@ -24,7 +24,8 @@ impl Counts {
         }
     }
 
-    // The byte at which a kind's body starts.
+    // The byte at which a kind's body starts. Counts are read line by line, so their type does not say their bounds; that of
+    // `Bodies` does.
     pub(crate) fn start(self, kind: BodyKind) -> usize
         requires { Limited self }
         ensures { result ≡ start self kind }

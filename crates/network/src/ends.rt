@@ -25,6 +25,7 @@ pub struct Ends {
     ghost within: { Within places links.items },
 }
 
+// By hand: for a struct with a ghost field none is derived.
 impl Clone for Ends {
     ghost use Rattle.std.specs.Prelude.{◌≡◌, ⊤};
 

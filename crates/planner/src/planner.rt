@@ -9,6 +9,7 @@ mod questions;
 
 // A planner: the stations with their turnouts, by place, the closed links, and whether the plan is solved.
 // The tables are of the format's limits, and no map or vector, since planner calls allocate nothing.
+// How many stations stand is kept beside them: to count them would take a pass over the places.
 #[derive(Clone, Copy)]
 pub struct Planner<'a> {
     map: Map<'a>,

@@ -9,7 +9,8 @@ use planner::planner::Planner;
 use std::io;
 
 fn main(rt: HostRuntime) -> io::Result<()> {
-    // The start is mapdivide's too: a map borrows its file, so no function hands out both.
+    // The start is mapdivide's too: a function that opened the map would leave the file to keep and the fault to print,
+    // which is the most of it.
     let file = map_file(&rt);
     let mut map = Map::empty();
     if let Err(fault) = map.read(file.as_slice()) {

@@ -40,7 +40,7 @@ fn wrong_triggers(into: &[u64; 40], triggers: &[u32]) -> usize {
     triggers
         .iter()
         .enumerate()
-        .filter(|(place, found)| trigger(&held, *place) != **found as usize)
+        .filter(|(place, found)| trigger(&held, *place) != Some(**found as usize))
         .count()
 }
 
@@ -71,6 +71,7 @@ fn differences(heap: Global, map: &Map<'_>, closed: &[bool; 4096]) -> Result<usi
     let mut triggers = vec![in heap; 0u32; network.places]?;
     let mut order = vec![in heap; 0u32; network.places]?;
     let Ok(division) = divide(&network, triggers.as_mut_slice(), order.as_mut_slice()) else {
+        // A refusal counts as one entry that differs.
         return Ok(1);
     };
     let into = approaches(map, closed);

@@ -1,6 +1,6 @@
 use std::alloc::{AllocError, Global};
 
-// A link's signal number where it has none.
+// A link's signal number where it has none. The files are written from the format, and use nothing of its reader.
 const NO_SIGNAL: u16 = 65535;
 
 // Numbers of two bytes, least byte first.

@@ -52,9 +52,8 @@ fn is_top(held: &[u64; 40], top: usize, own: u64) -> bool {
 }
 
 // The trigger of a place: the lowest place that holds it and every place that holds the trigger.
-pub fn trigger(held: &[u64; 40], place: usize) -> usize {
+pub fn trigger(held: &[u64; 40], place: usize) -> Option<usize> {
     held.iter()
         .enumerate()
         .position(|(top, own)| holds(*own, place) && is_top(held, top, *own))
-        .unwrap_or(40)
 }
