@@ -44,7 +44,8 @@ fn meet_heads(net: &Network, u: usize, owners: &[Option<u16>; 2048], work: &mut 
     }
 }
 
-// Has the border places of a growth wait.
+// Has the border places of a growth wait. Members and owners are read while what waits is written, so they are handed in
+// apart.
 fn meet_border(net: &Network, members: &[u16], owners: &[Option<u16>; 2048], work: &mut Work)
     requires places { (q : ℕ) → q < length members.now → at members.now q < net.now.places }
     requires waiting { Waiting net.now.places work.old }

@@ -22,7 +22,7 @@ pub struct Ring<'r> {
     spots: &'r [u16; 2048],
 }
 
-// Writes the position of each member.
+// Writes the position of each member. There is a ring only when they are written.
 fn spot(net: &Network, u: usize, members: &[u16], spots: &mut [u16; 2048])
     // A place is a number: no type says of which network.
     requires place { u < net.now.places }

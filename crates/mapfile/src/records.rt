@@ -19,7 +19,7 @@ pub trait Record {
     const KIND: BodyKind;
 
     // Checks a record whose first byte in the file is `at`, and answers its key; `before` is the key of the record
-    // before it, 0 at the first.
+    // before it, or 0: then the first needs no case.
     fn check(bytes: &[u8], at: usize, counts: Counts, before: u32) -> Result<u32, Fault>
         requires bytes_len { length bytes.now ≡ size KIND }
         requires at_bound { at < 65536 }

@@ -44,7 +44,8 @@ fn is_take(choice: u32) -> bool {
 }
 
 // Makes one call on both queues and on the list. None, if they answered differently. The calls answer with different
-// types, so the choice is an `if`: no one closure could stand for all of them.
+// types, so the choice is an `if`: no one closure could stand for all of them. What is handed in meets only here and in
+// `trial`, and is of three types that lend it: a struct would be taken apart at once.
 fn one_step<K: Kind, A: Queue<K>, B: Queue<K>>(
     a: &mut A,
     b: &mut B,
