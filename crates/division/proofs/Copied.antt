@@ -1,9 +1,10 @@
 -- What `get(i).copied()` reads from a slice.
-use Rattle.std.proofs.Common.{◌≡◌, ℕ, ◌+◌, ◌<◌, List, length, slice_index_or, Option, Some, None, Bor, sym, refl, ap, ◌∙◌, slice_index, slice_range, arith}
+use Rattle.std.proofs.Common.{◌≡◌, ℕ, ◌<◌, List, length, slice_index_or, Option, Some, None, Bor, sym, refl, ap, ◌∙◌, arith}
 use Rattle.std.specs.Option.{option_copied}
 use Rattle.std.specs.Slice.{IsItemAt}
 use Rattle.std.proofs.lemmas.Bool.{ltb-true}
 use Rattle.std.proofs.lemmas.Option.{slice_get_read, get_or_from_slice_get}
+use Rattle.network.specs.Leaving.{leaving_of}
 use Rattle.network.specs.declared.link.OpenLink.{OpenLink}
 use Rattle.network.specs.Links.{blank}
 use Rattle.network.specs.declared.network.Network.{Network}
@@ -20,5 +21,5 @@ copied_at xs i (Some b) x d at e =
 copied_at xs i None x d at e = absurd cc
 
 -- a link that is read from those of a place
-pub copied_known : (n : Network) (u : ℕ) → u < n.places → {xs : List OpenLink} → xs ≡ slice_range n.links (slice_index n.first u) (slice_index n.first (u + 1)) → {i : ℕ} (r : Option (Bor OpenLink)) {x : OpenLink} → IsItemAt xs i r → option_copied r ≡ Some x → x.head < n.places
+pub copied_known : (n : Network) (u : ℕ) → u < n.places → {xs : List OpenLink} → xs ≡ leaving_of n u → {i : ℕ} (r : Option (Bor OpenLink)) {x : OpenLink} → IsItemAt xs i r → option_copied r ≡ Some x → x.head < n.places
 copied_known n u here {xs} e {i} r {x} at same = omega (arith, ap (λ l. l.head) (copied_at xs i r x blank at same), leaving_place n u here xs e i (copied_within xs i r x at same))

@@ -1,6 +1,7 @@
 -- The growth from its start to its end, and the counters put back.
-use Rattle.std.proofs.Common.{◌≡◌, ℕ, ◌+◌, ◌<◌, ◌≤◌, Bool, true, false, not, ◌&&◌, eqb, ltb, ◌≢◌, ◌⊎◌, List, [], ◌∷◌, length, set, slice_range, slice_index_or, MatchBool, sym, refl, ap, ◌∙◌, subst, inl, inr, arith, get_or-set_other, get_or-set_same}
+use Rattle.std.proofs.Common.{◌≡◌, ℕ, ◌+◌, ◌<◌, ◌≤◌, Bool, true, false, not, ◌&&◌, eqb, ltb, ◌≢◌, ◌⊎◌, List, [], ◌∷◌, length, set, slice_index_or, MatchBool, sym, refl, ap, ◌∙◌, subst, inl, inr, arith, get_or-set_other, get_or-set_same}
 use Rattle.std.proofs.lemmas.Bool.{both_ways, cases_eq, cases_Bool, and_parts, and_from, not-true, eq-eqb, eqb-true, eqb-false, ltb-true}
+use Rattle.network.specs.Leaving.{leaving_of}
 use Rattle.network.specs.declared.network.Network.{Network}
 use Rattle.network.specs.Packed.{graph_of}
 use Rattle.network.specs.declared.link.OpenLink.{OpenLink}
@@ -150,7 +151,7 @@ putting_more n u full left was j putting within = record {
         go (inr e) = inr (same ∙ e)
 
 -- one turn of the loop over the links that leave u
-pub putting_turn : (n : Network) (u : ℕ) → u < n.places → (items : List OpenLink) → items ≡ slice_range n.links (at n.first u) (at n.first (u + 1)) → (k : ℕ) → k < length items →
+pub putting_turn : (n : Network) (u : ℕ) → u < n.places → (items : List OpenLink) → items ≡ leaving_of n u → (k : ℕ) → k < length items →
     (full left : List ℕ) (was : ℕ → ℕ) → length left ≡ 2048 → Putting n u (at full) was (at left) (at n.first u + k) →
     Putting n u (at full) was (at (set left (slice_index_or items k blank).head (at full (slice_index_or items k blank).head))) (at n.first u + (k + 1))
 putting_turn n u here items e k lt full left was long putting =

@@ -1,7 +1,8 @@
 -- The links of member k, from the first position of its part to the last.
-use Rattle.std.proofs.Common.{◌≡◌, ℕ, ◌+◌, ◌-◌, ◌<◌, ◌≤◌, cond, eqb, ◌≢◌, ◌⊎◌, List, [], ◌∷◌, ◌++◌, length, set, slice_range, slice_index_or, sym, refl, ap, ◌∙◌, subst, inl, inr, arith, get_or-set_other, get_or-set_same}
+use Rattle.std.proofs.Common.{◌≡◌, ℕ, ◌+◌, ◌-◌, ◌<◌, ◌≤◌, cond, eqb, ◌≢◌, ◌⊎◌, List, [], ◌∷◌, ◌++◌, length, set, slice_index_or, sym, refl, ap, ◌∙◌, subst, inl, inr, arith, get_or-set_other, get_or-set_same}
 use Rattle.std.proofs.Math.ListN.{length-append}
 use Rattle.std.proofs.lemmas.Bool.{cases_eq, cond-true, cond-false, eq-eqb, ne_eqb}
+use Rattle.network.specs.Leaving.{leaving_of}
 use Rattle.network.specs.declared.network.Network.{Network}
 use Rattle.network.specs.declared.link.OpenLink.{OpenLink}
 use Rattle.network.specs.Links.{blank}
@@ -143,7 +144,7 @@ module _ {n : Network} {v k u : ℕ} {was : ℕ → ℕ} {joined : ℕ} where
 
 -- One turn of the loop over the links that leave u, which is member k, on the lists themselves.
 module _ {n : Network} {v k u : ℕ} {was : ℕ → ℕ} {joined j : ℕ}
-    {items : List OpenLink} (e : items ≡ slice_range n.links (at n.first u) (at n.first (u + 1))) (lt : j < length items)
+    {items : List OpenLink} (e : items ≡ leaving_of n u) (lt : j < length items)
     (members left : List ℕ) (following : Following n v k u was joined (at members) (at left) (length members) (at n.first u + j)) (long : length left ≡ 2048) where
   abbrev w : ℕ
   w = (slice_index_or items j blank).head

@@ -1,11 +1,12 @@
 -- How far the links of each member lead on a way back to u, and what that says of the lowest twin.
-use Rattle.std.proofs.Common.{◌≡◌, ℕ, ◌+◌, ◌-◌, ◌<◌, ◌≤◌, ◌≢◌, ◌⊎◌, List, length, set, min, max, slice_range, slice_index_or, false, nat_eq, Option, Some, sym, refl, ap, ◌∙◌, subst, inl, inr, arith, get_or-set_other, get_or-set_same}
+use Rattle.std.proofs.Common.{◌≡◌, ℕ, ◌+◌, ◌-◌, ◌<◌, ◌≤◌, ◌≢◌, ◌⊎◌, List, length, set, min, max, slice_index_or, false, nat_eq, Option, Some, sym, refl, ap, ◌∙◌, subst, inl, inr, arith, get_or-set_other, get_or-set_same}
 use Rattle.std.specs.Option.{option_eq}
 use Rattle.std.proofs.lemmas.Bool.{both_ways, cases_eq, cases_lt, eq-eqb}
 use Rattle.structures.specs.Graphs.{Graph, Within, Approach}
 use Rattle.structures.proofs.Held.{Held, held_self, held_before, holder_place}
 use Rattle.structures.proofs.Maximal.{Twins}
 use Rattle.structures.proofs.Twins.{Back, home, on, Past, Ordered, back_held, twin_yes, twin_no}
+use Rattle.network.specs.Leaving.{leaving_of}
 use Rattle.network.specs.declared.network.Network.{Network}
 use Rattle.network.specs.declared.link.OpenLink.{OpenLink}
 use Rattle.network.specs.Links.{blank}
@@ -144,7 +145,7 @@ module _ (n : Network) (u len : ℕ) (spot : ℕ → ℕ) (x best j : ℕ) (here
       backs i lo hi ne back (inr apart) = omega (arith, before.backs i lo (omega arith) ne back)
 
 -- one turn of the loop over the links that leave x
-module _ (n : Network) (u len : ℕ) (spot : ℕ → ℕ) (x best k : ℕ) (here : x < n.places) (items : List OpenLink) (e : items ≡ slice_range n.links (at n.first x) (at n.first (x + 1))) (lt : k < length items)
+module _ (n : Network) (u len : ℕ) (spot : ℕ → ℕ) (x best k : ℕ) (here : x < n.places) (items : List OpenLink) (e : items ≡ leaving_of n x) (lt : k < length items)
     (before : Reaching n u len spot x best (at n.first x + k)) (one : ℕ) (link : LinkReach (graph_of n) u len spot (slice_index_or items k blank).head one) where
   pub reaching_turn : (more : ℕ) → more ≡ max best one → Reaching n u len spot x more (at n.first x + (k + 1))
   reaching_turn more is =

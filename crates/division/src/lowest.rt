@@ -155,7 +155,7 @@ fn write_triggers(
     requires long { length triggers.old ≡ net.now.places }
     ensures { TriggerEntries (graph_of net.now) triggers.new }
 {
-    // The owners are read by position: `zip` was tried, and needs an invariant over two iterators.
+    // The owners are read by position: `zip` needs an invariant over two iterators.
     for (w, trigger) in triggers.iter_mut().enumerate() {
         let owner = owners[w].unwrap();
         *trigger = u32::from(names[owner as usize]);

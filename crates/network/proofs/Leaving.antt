@@ -1,21 +1,26 @@
 -- The open links that leave a place, and all open links, by position.
-use Rattle.std.proofs.Common.{◌≡◌, ℕ, ◌+◌, ◌-◌, ◌<◌, List, length, take, drop, slice_index, slice_index_or, slice_range, sym, refl, ap, ◌∙◌, arith}
+use Rattle.std.proofs.Common.{◌≡◌, ℕ, ◌+◌, ◌-◌, ◌<◌, List, [], length, take, drop, slice_index, slice_index_or, slice_range, nat_lt, sym, refl, ap, ◌∙◌, arith}
 use Rattle.std.proofs.lemmas.List.{get_or-take, get_or-drop, length-take-le, length-drop}
 use Rattle.network.specs.declared.link.OpenLink.{OpenLink}
 use Rattle.network.specs.declared.network.Network.{Network}
 use Rattle.network.specs.Links.{blank, link_at}
 use Rattle.network.specs.Packed.{graph_of}
+use Rattle.network.specs.Leaving.{leaving_of}
+use Rattle.std.proofs.lemmas.Bool.{cond-true, lt-ltb}
 use Rattle.structures.specs.Graphs.{Approach}
 use Rattle.network.proofs.Parts.{rise, part_known, part_tail}
 
 -- the links of u's part
-module _ (n : Network) (u : ℕ) (here : u < n.places) (xs : List OpenLink) (e : xs ≡ slice_range n.links (slice_index n.first u) (slice_index n.first (u + 1))) where
+module _ (n : Network) (u : ℕ) (here : u < n.places) (xs : List OpenLink) (e : xs ≡ leaving_of n u) where
+  part : xs ≡ slice_range n.links (slice_index n.first u) (slice_index n.first (u + 1))
+  part = e ∙ cond-true (nat_lt u n.places) (slice_range n.links (slice_index n.first u) (slice_index n.first (u + 1))) [] (lt-ltb u n.places here)
+
   pub leaving_length : slice_index n.first u + length xs ≡ slice_index n.first (u + 1)
   leaving_length =
       let a = rise n (u + 1) n.places (omega arith) (omega arith) in
       let b = rise n u (u + 1) (omega arith) (omega arith) in
       let d : length (drop (slice_index n.first u) n.links) ≡ 4096 - slice_index n.first u = omega (arith, length-drop (slice_index n.first u) n.links, n.sized) in
-      omega (arith, ap length e, length-take-le (slice_index n.first (u + 1) - slice_index n.first u) (drop (slice_index n.first u) n.links) (omega (arith, d, a, n.sized)), b)
+      omega (arith, ap length part, length-take-le (slice_index n.first (u + 1) - slice_index n.first u) (drop (slice_index n.first u) n.links) (omega (arith, d, a, n.sized)), b)
 
   module _ (k : ℕ) (lt : k < length xs) where
     pub leaving_position : slice_index n.first u + k < slice_index n.first (u + 1)
@@ -23,7 +28,7 @@ module _ (n : Network) (u : ℕ) (here : u < n.places) (xs : List OpenLink) (e :
 
     pub leaving_at : slice_index_or xs k blank ≡ link_at n.links (slice_index n.first u + k)
     leaving_at =
-        ap (λ ys. slice_index_or ys k blank) e
+        ap (λ ys. slice_index_or ys k blank) part
         ∙ get_or-take (slice_index n.first (u + 1) - slice_index n.first u) (drop (slice_index n.first u) n.links) k blank (omega (arith, leaving_position))
         ∙ get_or-drop (slice_index n.first u) n.links k blank
 

@@ -5,7 +5,7 @@ use super::link::OpenLink;
 mod parts;
 
 // For each place the open links that leave it: those of place p stand at the positions first[p] to first[p + 1].
-// A place is a number, and no type says of which network: who is handed one asks that it be below `places`.
+// A place is a number, and no type says of which network it is one.
 #[derive(Clone, Copy)]
 pub struct Network {
     pub places: usize,

@@ -10,8 +10,8 @@ use kinds::kind::Kind;
 
 // A lent list, and what a queue keeps beside it: the first `waiting` entries have the items that wait. No `ArrayVec`, which
 // owns its list: a queue is made over one that it is lent.
-// That they are no more than the list was tried as a ghost field: the check does not cover lending the list through a
-// struct that has one and lies in another.
+// That they are no more than the list is no ghost field: the check does not cover lending the list through a struct that
+// has one and lies in another.
 #[derive(Drop)]
 pub struct Lent<'a, C> {
     pub entries: &'a mut [Entry<C>],

@@ -1,4 +1,5 @@
-ghost use Rattle.std.specs.Prelude.{◌≡◌, ◌+◌, ◌<◌, take, slice_index, slice_range};
+ghost use Rattle.std.specs.Prelude.{◌≡◌, take, slice_index};
+ghost use Rattle.network.specs.Leaving.{leaving_of};
 
 use super::super::link::OpenLink;
 use super::Network;
@@ -11,11 +12,13 @@ impl Network {
         &self.links[..self.first[self.places] as usize]
     }
 
-    // The open links that leave a place.
+    // The open links that leave a place; none leave an unknown one.
     pub fn leaving(&self, place: usize) -> &[OpenLink]
-        requires { place < self.now.places }
-        ensures { result.now ≡ slice_range self.now.links (slice_index self.now.first place) (slice_index self.now.first (place + 1)) }
+        ensures { result.now ≡ leaving_of self.now place }
     {
+        if place >= self.places {
+            return &[];
+        }
         &self.links[self.first[place] as usize..self.first[place + 1] as usize]
     }
 }
