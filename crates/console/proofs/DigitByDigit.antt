@@ -1,5 +1,5 @@
 -- Reading a numeral digit by digit.
-use Rattle.std.proofs.Common.{◌≡◌, ℕ, zero, suc, ◌+◌, ◌-◌, ◌*◌, ◌^◌, ◌<◌, ◌≤◌, Bool, true, false, ◌&&◌, List, [], ◌∷◌, ◌++◌, length, get_or, take, Some, None, Ok, Err, Result, sym, refl, ap, ◌∙◌, pow-suc, add-one, arith}
+use Rattle.std.proofs.Common.{◌≡◌, ℕ, zero, suc, ◌+◌, ◌-◌, ◌*◌, ◌^◌, ◌<◌, ◌≤◌, Bool, true, false, ◌&&◌, eqb, List, [], ◌∷◌, ◌++◌, length, get_or, take, Some, None, Ok, Err, Result, sym, refl, ap, ◌∙◌, pow-suc, add-one, arith}
 use Rattle.std.proofs.lemmas.List.{take_more, take_all}
 use Rattle.std.proofs.lemmas.List.Sums.{fold_more}
 use Rattle.std.specs.Result.{OkIff, result_ok}
@@ -44,17 +44,28 @@ digits_broken (d ∷ ds) (suc i) h e = let r : digits ds ≡ false = digits_brok
     go false q = refl
 
 -- ---- what the reading answers
+pub none_empty : (ds : List ℕ) → eqb (length ds) 0 ≡ true → None ≡ number ds
+unfolding number
+none_empty ds h = grind (arith, nat_tests)
+
+pub none_long : (ds : List ℕ) → 10 < length ds → None ≡ number ds
+unfolding number
+none_long ds h = grind (arith, nat_tests)
+
 pub none_broken : (ds : List ℕ) (i : ℕ) → i < length ds → (48 ≤ get_or ds i 0 → 57 < get_or ds i 0) → None ≡ number ds
 unfolding number
 none_broken ds i h k = let e : digits ds ≡ false = digits_broken ds i h (no_digit (get_or ds i 0) k) in grind (arith, nat_tests, e)
 
-none_great : (ds : List ℕ) → 4294967295 < value ds → None ≡ number ds
+pub none_great : (ds : List ℕ) → 4294967295 < value ds → None ≡ number ds
 unfolding number
 none_great ds h = grind (arith, nat_tests)
 
-some_read : (ds : List ℕ) → 1 ≤ length ds → length ds ≤ 10 → digits ds ≡ true → value ds ≤ 4294967295 → Some (value ds) ≡ number ds
+pub some_read : (ds : List ℕ) → 1 ≤ length ds → length ds ≤ 10 → digits ds ≡ true → value ds ≤ 4294967295 → Some (value ds) ≡ number ds
 unfolding number
 some_read ds h k e f = grind (arith, nat_tests, e)
+
+pub not_empty : (ds : List ℕ) → false ≡ eqb (length ds) 0 → 1 ≤ length ds
+not_empty ds h = grind (arith, nat_tests)
 
 -- the value of digits, where it fits
 pub value_read : {E : Type 0} (r : Result ℕ E) (ds : List ℕ) (v : ℕ) → 1 ≤ length ds → length ds ≤ 10 → digits ds ≡ true → v ≡ value ds → OkIff r (v < 4294967296) v → result_ok r ≡ number ds

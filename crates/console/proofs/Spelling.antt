@@ -1,6 +1,7 @@
 -- A line's meaning is the call that it spells.
-use Rattle.std.proofs.Common.{◌≡◌, ℕ, suc, ◌+◌, ◌<◌, ◌≤◌, Bool, true, false, cond, ◌&&◌, eqb, ltb, leb, List, [], ◌∷◌, ◌++◌, length, get_or, take, drop, Some, None, codes, Option, sym, refl, ap, ◌∙◌, subst, add-one, one-add, arith, length-append}
+use Rattle.std.proofs.Common.{◌≡◌, ℕ, suc, ◌+◌, ◌-◌, ◌<◌, ◌≤◌, Bool, true, false, cond, ◌&&◌, eqb, ltb, leb, List, [], ◌∷◌, ◌++◌, length, get_or, take, drop, Some, None, codes, Option, sym, refl, ap, ◌∙◌, subst, add-one, one-add, arith, length-append, length-drop}
 use Rattle.std.proofs.lemmas.Bool.Decides.{nat_tests}
+use Rattle.std.proofs.lemmas.List.{take_all}
 use Rattle.planner.specs.declared.change.Change.{Change}
 use Rattle.planner.specs.declared.change.Change.TheVariants.{Place, Lift, Close, Reopen}
 use Rattle.console.specs.Grammar.{One, Spells}
@@ -8,15 +9,35 @@ use Rattle.console.specs.Lines.{no_space, space, with_both, pair_of, single, by_
 use Rattle.console.specs.Numerals.{is_digit, digits, number, Numeral}
 use Rattle.console.proofs.DigitByDigit.{numeral_of, of_numeral}
 
+pub is_space : (b : ℕ) → b ≡ 32 → no_space b ≡ false
+is_space b h = grind (arith, nat_tests)
+
+pub is_none : (b : ℕ) → (b ≡ 32 → ⊥) → no_space b ≡ true
+is_none b h = grind (arith, nat_tests)
+
 -- ---- the rest of a list from a place on
+pub rest_is : (s : List ℕ) (i : ℕ) → take (length s - i) (drop i s) ≡ drop i s
+rest_is s i = take_all (length s - i) (drop i s) (simp length-drop (omega arith))
 
 -- ---- two numbers
+pub pair_none : (s : List ℕ) → length s ≤ space s → None ≡ pair_of s
+pair_none s h = let e : ltb (space s) (length s) ≡ false = grind (arith, nat_tests) in rw e
+
 pub pair_is : (s : List ℕ) (o p : Option ℕ) → space s < length s → o ≡ number (take (space s) s) → p ≡ number (drop (space s + 1) s) → with_both Place o p ≡ pair_of s
 pair_is s o p h e f = let t : ltb (space s) (length s) ≡ true = grind (arith, nat_tests) in rw (t, e, f)
 
 -- ---- a line
+pub meaning_none : (s : List ℕ) → (2 ≤ length s → get_or s 1 0 ≡ 32 → ⊥) → None ≡ meaning s
+meaning_none s h = let e : (leb 2 (length s) && eqb (get_or s 1 0) 32) ≡ false = grind (arith, nat_tests) in rw e
+
 pub meaning_is : (s : List ℕ) → 2 ≤ length s → get_or s 1 0 ≡ 32 → meaning s ≡ by_letter (get_or s 0 0) (drop 2 s)
 meaning_is s h k = let e : (leb 2 (length s) && eqb (get_or s 1 0) 32) ≡ true = grind (arith, nat_tests) in rw e
+
+pub by_place : (l : ℕ) (s : List ℕ) → l ≡ 80 → by_letter l s ≡ pair_of s
+by_place l s h = let e : eqb l 80 ≡ true = grind (arith, nat_tests) in rw e
+
+pub by_other : (l : ℕ) (s : List ℕ) → (l ≡ 80 → ⊥) → by_letter l s ≡ single l (number s)
+by_other l s h = let e : eqb l 80 ≡ false = grind (arith, nat_tests) in rw e
 
 -- ---- a line and its letters
 split : (s : List ℕ) → 2 ≤ length s → s ≡ get_or s 0 0 ∷ (get_or s 1 0 ∷ drop 2 s)
@@ -77,6 +98,9 @@ length_past : (ds es : List ℕ) (x : ℕ) → length ds < length (ds ++ (x ∷ 
 length_past ds es x = simp length-append (omega arith)
 
 -- ---- two numbers
+pub pair_late : (s : List ℕ) (o p : Option ℕ) (m : ℕ) → space s < length s → o ≡ number (take (space s) s) → p ≡ number (drop (space s + 1) s) → o ≡ Some m → p ≡ None → None ≡ pair_of s
+pair_late s o p m h e f a b = let w : with_both Place (Some m) None ≡ pair_of s = rw (a, b) at (pair_is s o p h e f) in w
+
 pub pair_done : (s : List ℕ) (o p : Option ℕ) (m n : ℕ) → space s < length s → o ≡ number (take (space s) s) → p ≡ number (drop (space s + 1) s) → o ≡ Some m → p ≡ Some n → Some (Place m n) ≡ pair_of s
 pair_done s o p m n h e f a b = let w : with_both Place (Some m) (Some n) ≡ pair_of s = rw (a, b) at (pair_is s o p h e f) in w
 

@@ -3,12 +3,12 @@ use Rattle.std.proofs.Common.{◌≡◌, ℕ, ◌+◌, ◌<◌, ◌≢◌, ◌�
 use Rattle.std.proofs.lemmas.Bool.{cases_eq}
 use Rattle.structures.specs.Graphs.{Graph, Within}
 use Rattle.structures.specs.Rivals.{Among}
-use Rattle.structures.proofs.Held.{Held, holder_place}
+use Rattle.structures.proofs.Held.{Held, held_self, holder_place}
 use Rattle.structures.proofs.Maximal.{Top}
 use Rattle.structures.proofs.Growth.{held_cases}
 use Rattle.structures.proofs.Cover.{Covered, assigned_held, assigned_call, assigned_only, owners_none, owners_call, owners_top}
 use Rattle.division.specs.Growing.{Member, Grown}
-use Rattle.division.specs.Covering.{owner_at, named, Called, Overwritten, Owned}
+use Rattle.division.specs.Covering.{owner_at, named, Called, StillCovered, Overwritten, Owned}
 
 -- Some owner is not none.
 pub some_not_none : {X : Type 0} (o : Option X) (x : X) → o ≡ Some x → o ≢ None
@@ -21,6 +21,10 @@ is_none_none (Some x) e = absurd cc
 pub not_none_some : (o : Option ℕ) → o ≢ None → o ≡ Some (unwrap_or o 0)
 not_none_some None ne = absurd (ne refl)
 not_none_some (Some x) ne = refl
+
+-- Assigning member by member.
+pub overwritten_none : (member : ℕ → ℕ) (v : ℕ) (was : ℕ → Option ℕ) → Overwritten member 0 v was was
+overwritten_none member v was = record { members = λ q lt. absurd (omega arith); others = λ w m. refl }
 
 pub overwritten_more : (member : ℕ → ℕ) (k v : ℕ) (was : ℕ → Option ℕ) (owners : List (Option ℕ)) → member k < length owners → Overwritten member k v was (owner_at owners) → Overwritten member (k + 1) v was (owner_at (set owners (member k) (Some v)))
 overwritten_more member k v was owners within before = record { members = λ q lt. at_member q lt (cases_eq (member q) (member k)); others = other }
@@ -76,6 +80,16 @@ module _ (g : Graph) (within : Within g) where
         covered : (w : ℕ) → w < g.places → after w ≢ None → Held g v w ⊎ (Held g v w → ⊥) → Covered g (v ∷ called.calls) w
         covered w lt some (inl h) = (v, inl refl, h)
         covered w lt some (inr n) = let c = called.covered w lt (λ f. some (as_was w n ∙ f)) in (c.0, inr c.1, c.2)
+
+    pub covers_v : after v ≢ None
+    covers_v = some_not_none (after v) v (now_v v (held_self g v))
+
+    pub covers_still : StillCovered g owner after
+    covers_still w lt some e = go (held_cases g within v w here)
+      where
+        go : Held g v w ⊎ (Held g v w → ⊥) → ⊥
+        go (inl h) = some_not_none (after w) v (now_v w h) e
+        go (inr n) = some (sym (as_was w n) ∙ e)
 
   -- every place has an owner
   pub called_all : (owner : ℕ → Option ℕ) → Called g owner → ((w : ℕ) → w < g.places → owner w ≢ None) → Owned g owner

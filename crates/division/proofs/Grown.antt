@@ -114,6 +114,9 @@ pub record Putting (n : Network) (u : ℕ) (full was now : ℕ → ℕ) (j : ℕ
   pub heads : (i : ℕ) → at n.first u ≤ i → i < j → now ((graph_of n).head i) ≡ full ((graph_of n).head i)
   pub others : (w : ℕ) → (now w ≡ full w) ⊎ (now w ≡ was w)
 
+pub putting_none : (n : Network) (u : ℕ) (full was : ℕ → ℕ) (j : ℕ) → j ≡ at n.first u → Putting n u full was was j
+putting_none n u full was j e = record { heads = λ i low high. absurd (omega arith); others = λ w. inr refl }
+
 pub putting_more : (n : Network) (u : ℕ) (full left : List ℕ) (was : ℕ → ℕ) (j : ℕ) → Putting n u (at full) was (at left) j → (graph_of n).head j < length left →
     Putting n u (at full) was (at (set left ((graph_of n).head j) (at full ((graph_of n).head j)))) (j + 1)
 putting_more n u full left was j putting within = record {
@@ -172,6 +175,28 @@ putting_all n u full was now j putting past = record {
 pub record Emptying (g : Graph) (member full was now : ℕ → ℕ) (k : ℕ) : Type 0 where
   pub heads : (q i : ℕ) → q < k → i < g.links → g.tail i ≡ member q → now (g.head i) ≡ full (g.head i)
   pub others : (w : ℕ) → (now w ≡ full w) ⊎ (now w ≡ was w)
+
+pub emptying_none : (g : Graph) (member full was : ℕ → ℕ) → Emptying g member full was was 0
+emptying_none g member full was = record { heads = λ q i lt. absurd (omega arith); others = λ w. inr refl }
+
+pub emptying_more : (g : Graph) (member full was now after : ℕ → ℕ) (k : ℕ) → Emptying g member full was now k → PutBack g (member k) full now after → Emptying g member full was after (k + 1)
+emptying_more g member full was now after k emptying back = record {
+  heads = λ q i lt known e. head q i known e lt (cases_eq q k);
+  others = λ w. other w (back.others w) (emptying.others w);
+}
+  where
+    still : (w : ℕ) → now w ≡ full w → (after w ≡ full w) ⊎ (after w ≡ now w) → after w ≡ full w
+    still w e (inl f) = f
+    still w e (inr f) = f ∙ e
+
+    head : (q i : ℕ) → i < g.links → g.tail i ≡ member q → q < k + 1 → (q ≡ k) ⊎ (q ≡ k → ⊥) → after (g.head i) ≡ full (g.head i)
+    head q i known e lt (inl same) = back.heads i known (e ∙ ap member same)
+    head q i known e lt (inr ne) = still (g.head i) (emptying.heads q i (omega arith) known e) (back.others (g.head i))
+
+    other : (w : ℕ) → (after w ≡ full w) ⊎ (after w ≡ now w) → (now w ≡ full w) ⊎ (now w ≡ was w) → (after w ≡ full w) ⊎ (after w ≡ was w)
+    other w (inl e) h = inl e
+    other w (inr e) (inl f) = inl (e ∙ f)
+    other w (inr e) (inr f) = inr (e ∙ f)
 
 -- A counter that nothing counted down is full.
 pub emptying_all : (g : Graph) (member full was now : ℕ → ℕ) (len : ℕ) → Full g full → Pending g was (Before g member len) → Emptying g member full was now len → Full g now

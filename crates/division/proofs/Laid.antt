@@ -1,5 +1,5 @@
 -- The order list, written one structure after the other in the order of their triggers.
-use Rattle.std.proofs.Common.{◌≡◌, ℕ, ◌+◌, ◌-◌, ◌<◌, ◌≤◌, Bool, true, cond, not, ltb, ◌≢◌, ◌⊎◌, List, length, take, drop, set, sym, ap, ◌∙◌, subst, inl, inr, arith, get_or-set_other, get_or-set_same}
+use Rattle.std.proofs.Common.{◌≡◌, ℕ, ◌+◌, ◌-◌, ◌<◌, ◌≤◌, Bool, true, cond, not, ltb, ◌≢◌, ◌⊎◌, List, length, take, drop, set, sym, refl, ap, ◌∙◌, subst, inl, inr, arith, get_or-set_other, get_or-set_same}
 use Rattle.std.proofs.lemmas.Bool.{cases_eq, cases_lt, cond-true, cond-false, lt-ltb, le-ltb, eqb-false, eq-eqb, ne_eqb, not-true, not_from_false}
 use Rattle.std.proofs.lemmas.List.{length-take, length-drop, get_or-take, get_or-drop}
 use Rattle.structures.specs.Graphs.{Graph, Within, Approach}
@@ -16,6 +16,10 @@ use Rattle.division.specs.declared.answer.Stretch.{Stretch}
 use Rattle.division.specs.Divided.{Inner, inner, stretch_at, OrderEntries}
 use Rattle.division.proofs.Counts.{count_split, count_next}
 use Rattle.division.proofs.Pigeon.{values, length_values, values_among, fewer, pigeon}
+
+-- Writing one stretch.
+pub stretched_none : (member : ℕ → ℕ) (from : ℕ) (was : ℕ → ℕ) → Stretched member 1 from was was
+stretched_none member from was = record { members = λ q i pos lt e. absurd (omega arith); earlier = λ i lt. refl; later = λ i le. refl }
 
 pub stretched_more : (member : ℕ → ℕ) (q from : ℕ) (was : ℕ → ℕ) (order : List ℕ) → 0 < q → from + q - 1 < length order → Stretched member q from was (at order) →
     Stretched member (q + 1) from was (at (set order (from + q - 1) (member q)))
@@ -66,6 +70,17 @@ pub record Laid (g : Graph) (was order begins ends : ℕ → ℕ) (next p : ℕ)
   pub stretch_only : (t i : ℕ) → t < p → trigger g t ≡ t → begins t ≤ i → i < ends t → (i < next) × (trigger g (order i) ≡ t)
   pub stretch_all : (t i : ℕ) → t < p → trigger g t ≡ t → i < next → trigger g (order i) ≡ t → (begins t ≤ i) × (i < ends t)
   pub kept : (i : ℕ) → next ≤ i → order i ≡ was i
+
+pub laid_none : (g : Graph) (was begins ends : ℕ → ℕ) → Laid g was was begins ends 0 0
+laid_none g was begins ends = record {
+  inner_only = λ i lt. absurd (omega arith);
+  complete = λ x n lt. absurd (omega arith);
+  once = λ i j lt. absurd (omega arith);
+  forward = λ i j lt. absurd (omega arith);
+  stretch_only = λ t i lt. absurd (omega arith);
+  stretch_all = λ t i lt. absurd (omega arith);
+  kept = λ i le. refl;
+}
 
 module _ (g : Graph) (within : Within g) where
   -- what a trigger holds has that trigger

@@ -77,6 +77,10 @@ module _ {g : Graph} {u : ℕ} {member : ℕ → ℕ} {len : ℕ} {spot : ℕ �
   past_back x k (w, a, inr s) = on w a (λ e. omega (arith, ap spot e, ordered.first, s.1)) s.0
 
   module _ (far : ℕ → ℕ) (from : ℕ) (reach : ReachFrom g u member len spot far (from + 1)) (w : ℕ) (later : (q : ℕ) → 0 < q → q < len → member q ≡ w → from < q) where
+    -- the link leads to u
+    pub link_home : w ≡ u → LinkReach g u len spot w len
+    link_home e = record { small = omega arith; leads = λ k lt. inl e; home = λ f. omega arith; back = λ ne. absurd (ne e) }
+
     member_later : w ≢ u → (q : ℕ) → q < len → member q ≡ w → from < q
     member_later ne q lt e = go (cases_eq q 0)
       where
@@ -111,6 +115,14 @@ pub record Reaching (n : Network) (u len : ℕ) (spot : ℕ → ℕ) (x best j :
   pub leads : (k : ℕ) → k < best → Past (graph_of n) u spot k x
   pub homes : (i : ℕ) → at n.first x ≤ i → i < j → (graph_of n).head i ≡ u → len ≤ best
   pub backs : (i : ℕ) → at n.first x ≤ i → i < j → (graph_of n).head i ≢ u → Back (graph_of n) u ((graph_of n).head i) → spot ((graph_of n).head i) ≤ best
+
+pub reaching_none : (n : Network) (u len : ℕ) (spot : ℕ → ℕ) (x j : ℕ) → j ≡ at n.first x → Reaching n u len spot x 0 j
+reaching_none n u len spot x j e = record {
+  small = omega arith;
+  leads = λ k lt. absurd (omega arith);
+  homes = λ i low high. absurd (omega arith);
+  backs = λ i low high. absurd (omega arith);
+}
 
 module _ (n : Network) (u len : ℕ) (spot : ℕ → ℕ) (x best j : ℕ) (here : x < n.places) (low : at n.first x ≤ j) (high : j < at n.first (x + 1))
     (before : Reaching n u len spot x best j) (one : ℕ) (link : LinkReach (graph_of n) u len spot ((graph_of n).head j) one) where
@@ -196,6 +208,15 @@ pub record Lowering (g : Graph) (u : ℕ) (member far : ℕ → ℕ) (low top k 
   pub by : 0 < top → (r : ℕ) × (r < k) × (far r ≡ top)
 
 module _ {g : Graph} {u : ℕ} {member : ℕ → ℕ} {len : ℕ} {spot : ℕ → ℕ} (ringed : Ringed g u member len spot) (far : ℕ → ℕ) (reach : ReachFrom g u member len spot far 0) where
+  -- before the first member
+  pub lowering_first : Lowering g u member far u 0 0
+  lowering_first = record {
+    twin = (held_self g u, held_self g u);
+    least = λ r lt t. absurd (omega arith);
+    reached = λ r lt. absurd (omega arith);
+    by = λ pos. absurd (omega arith);
+  }
+
   module _ (low top k : ℕ) (lt : k < len) (before : Lowering g u member far low top k) where
     held_k : Held g u (member k)
     held_k = ringed.grown.only k lt
@@ -251,6 +272,14 @@ module _ {g : Graph} {u : ℕ} {member : ℕ → ℕ} {len : ℕ} {spot : ℕ �
         by : (top < far k) ⊎ (far k ≤ top) → 0 < max top (far k) → (r : ℕ) × (r < k + 1) × (far r ≡ max top (far k))
         by (inl lower) pos = (k, omega arith, omega arith)
         by (inr not_lower) pos = let r = before.by (omega arith) in (r.0, omega (arith, r.1), omega (arith, r.2))
+
+  pub lowering_all : (low top k : ℕ) → len ≤ k → Lowering g u member far low top k → LowestTwin g u low
+  lowering_all low top k past lowering = record {
+    twin = lowering.twin;
+    lowest = λ x t.
+        let m = ringed.grown.all x t.0 in
+        omega (arith, m.2, lowering.least m.0 (omega (arith, m.1)) (subst (Twins g u) (sym m.2) t));
+  }
 
 -- One whose structure no other place has.
 pub alone_lowest : (g : Graph) (u : ℕ) → Alone g u → LowestTwin g u u

@@ -1,5 +1,5 @@
 -- A body's records as the loop over them has come to them.
-use Rattle.std.proofs.Common.{◌≡◌, ℕ, ◌+◌, ◌-◌, ◌*◌, ◌<◌, ◌≤◌, List, ◌++◌, length, take, drop, Ok, Err, sym, ap, ◌∙◌, subst, add-one, arith, length-append, length-drop, drop-drop, mul-suc}
+use Rattle.std.proofs.Common.{◌≡◌, ℕ, suc, ◌+◌, ◌-◌, ◌*◌, ◌<◌, ◌≤◌, List, ◌++◌, length, take, drop, Ok, Err, sym, ap, ◌∙◌, subst, mul-le-mul_left, add-one, arith, length-append, length-drop, drop-drop, mul-suc}
 use Rattle.std.proofs.Math.Seq.{take-append_seam, drop-append_seam}
 use Rattle.mapfile.specs.declared.body.BodyKind.{BodyKind}
 use Rattle.mapfile.specs.declared.body.BodyKind.TheVariants.{Places, Links, Signals}
@@ -106,3 +106,10 @@ module _ (s : Shown) (n : Counts) (i before : ℕ) (rest : List ℕ) (cut : ℕ)
 -- a part is the body of its kind
 pub part_is : (f : List ℕ) (n : Counts) (k j : BodyKind) (p : Part) → j ≡ k → p.first ≡ start n j → p.bytes.now ≡ part f (start n j) (size j * count n j) → part_shown k p ≡ body_of f n k
 part_is f n k j p e h q = rw (h, q, e)
+
+-- a record lies within its body
+pub record_within : (size same i n all : ℕ) → size ≡ same → all ≡ same * n → i < n → size * i + size ≤ all
+record_within size same i n all e f h =
+    let m : size * suc i ≤ size * n = mul-le-mul_left {m = suc i} {n = n} size h in
+    let a : size * n ≡ same * n = rw e in
+    omega (arith, m, mul-suc size i, a, f)
