@@ -1,6 +1,5 @@
 use super::answer::{ListLength, Stretch};
 use super::divide::divide;
-use arrayvec::ArrayVec;
 use network::ends::{DrawnLink, Ends};
 use network::network::Network;
 use std::process::Abort;
@@ -8,23 +7,24 @@ use std::test::Fail;
 
 // The network of some open links; none if one of them has an end that is no place.
 fn network(places: usize, links: &[(u16, u16)]) -> Option<Network> {
-    if places > 2048 {
+    if places > 2048 || links.len() > 4096 {
         return None;
     }
-    let mut drawn = ArrayVec::new();
-    for (tail, head) in links {
-        if drawn.is_full() || *tail as usize >= places || *head as usize >= places {
+    let mut drawn = [DrawnLink::default(); 4096];
+    for (number, (tail, head)) in links.iter().enumerate() {
+        if *tail as usize >= places || *head as usize >= places {
             return None;
         }
-        drawn.push(DrawnLink {
+        drawn[number] = DrawnLink {
             tail: *tail,
             head: *head,
             is_open: true,
-        });
+        };
     }
     Some(Network::of(&Ends {
         places,
-        links: drawn,
+        links: links.len(),
+        drawn,
     }))
 }
 

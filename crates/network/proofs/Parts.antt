@@ -39,6 +39,13 @@ module _ (n : Network) where
       go (inr (inl lt)) = absurd (omega (arith, rise (t + 1) u (omega arith) (omega arith), known.2))
       go (inr (inr lt)) = absurd (omega (arith, rise (u + 1) t (omega arith) (omega (arith, known.0)), known.1))
 
+  -- and within the table, as is the place that it leads to
+  pub part_index : (u i : ℕ) → u < n.places → i < slice_index n.first (u + 1) → i < 4096
+  part_index u i here lt = omega (arith, part_known u i here lt, n.sized)
+
+  pub part_head : (u i : ℕ) → u < n.places → i < slice_index n.first (u + 1) → (graph_of n).head i < 2048
+  part_head u i here lt = omega (arith, n.ends i (part_known u i here lt), n.sized)
+
   -- a link that leaves u is a position of u's part
   pub tail_part : (u i : ℕ) → i < (graph_of n).links → (graph_of n).tail i ≡ u → (slice_index n.first u ≤ i) × (i < slice_index n.first (u + 1))
   tail_part u i lt e = subst (λ x. (slice_index n.first x ≤ i) × (i < slice_index n.first (x + 1))) e ((n.leaves i lt).1, (n.leaves i lt).2)

@@ -1,6 +1,5 @@
 -- The graph of a map whose links are open but for those that are closed.
 use Rattle.std.specs.Prelude.{◌≡◌, ℕ, ◌<◌, Bool, true, false, not, List, slice_index, slice_index_or}
-use Rattle.arrayvec.specs.ArrayVec.{array_vec_len}
 use Rattle.structures.specs.Graphs.{Graph}
 use Rattle.mapfile.specs.declared.map.Map.{Map}
 use Rattle.mapfile.specs.Bytes.{word}
@@ -23,10 +22,10 @@ map_graph m closed = record {
 abbrev pub ends_graph : Ends → Graph
 ends_graph e = record {
   places = e.places;
-  links = array_vec_len e.links;
-  usable = λ k. (drawn_at e.links.items k).is_open;
-  tail = λ k. (drawn_at e.links.items k).tail;
-  head = λ k. (drawn_at e.links.items k).head;
+  links = e.links;
+  usable = λ k. (drawn_at e.drawn k).is_open;
+  tail = λ k. (drawn_at e.drawn k).tail;
+  head = λ k. (drawn_at e.drawn k).head;
 }
 
 -- two graphs with the same places and links

@@ -1,8 +1,6 @@
-ghost use Rattle.std.specs.Prelude.{◌≤◌};
-ghost use Rattle.arrayvec.specs.ArrayVec.{array_vec_len};
+ghost use Rattle.std.specs.Prelude.{◌≡◌, ◌≤◌, length};
 ghost use Rattle.network.specs.Within.{Within};
 
-use arrayvec::ArrayVec;
 use std::alloc::AllocError;
 
 mod drawn;
@@ -16,27 +14,30 @@ pub struct DrawnLink {
     pub is_open: bool,
 }
 
-// Where the links of a map begin and end, and which of them are open, by link number.
-#[derive(Drop)]
+// Where the links of a map begin and end, and which of them are open, by link number: the first `links` entries of `drawn`.
+// A table with its count, and no `ArrayVec`: ends are copied like the numbers that they are, and an `ArrayVec` is not.
+#[derive(Copy)]
 pub struct Ends {
     pub places: usize,
-    pub links: ArrayVec<DrawnLink, 4096>,
-    ghost sized: { (places ≤ 2048) × (array_vec_len links ≤ 4096) },
-    ghost within: { Within places links.items },
+    pub links: usize,
+    pub drawn: [DrawnLink; 4096],
+    ghost sized: { (places ≤ 2048) × (links ≤ 4096) × (length drawn ≡ 4096) },
+    ghost within: { Within places links drawn },
 }
 
-// By hand: for a struct with a ghost field none is derived.
+// By hand: what a copy is stands on it.
 impl Clone for Ends {
     ghost use Rattle.std.specs.Prelude.{◌≡◌, ⊤};
 
-    ghost is_clone = { λ ends copy. (copy.places ≡ ends.places) × (copy.links.items ≡ ends.links.items) };
+    ghost is_clone = { λ ends copy. (copy.places ≡ ends.places) × (copy.links ≡ ends.links) × (copy.drawn ≡ ends.drawn) };
 
     ghost is_infallible = { λ ends. ⊤ };
 
     fn clone(&self) -> Result<Ends, AllocError> {
         Ok(Ends {
             places: self.places,
-            links: self.links.clone()?,
+            links: self.links,
+            drawn: self.drawn,
         })
     }
 }

@@ -1,7 +1,6 @@
 ghost use Rattle.network.specs.Drawn.{map_graph, ends_graph, Alike};
 
 use super::{DrawnLink, Ends};
-use arrayvec::ArrayVec;
 use mapfile::map::Map;
 
 impl Ends {
@@ -10,18 +9,19 @@ impl Ends {
         ensures { Alike (ends_graph result) (map_graph map.now closed.now) }
     {
         let counts = map.counts();
-        let mut links = ArrayVec::new();
+        let mut drawn = [DrawnLink::default(); 4096];
         for (number, is_closed) in closed[..counts.links].iter().enumerate() {
             let link = map.link(number as u32).unwrap();
-            links.push(DrawnLink {
+            drawn[number] = DrawnLink {
                 tail: link.from,
                 head: link.to,
                 is_open: !is_closed,
-            });
+            };
         }
         Ends {
             places: counts.places,
-            links,
+            links: counts.links,
+            drawn,
         }
     }
 }

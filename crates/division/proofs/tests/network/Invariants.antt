@@ -1,6 +1,6 @@
-use Rattle.std.proofs.Common.{◌≤◌, length}
+use Rattle.std.proofs.Common.{◌≡◌, length}
 use Rattle.network.specs.Within.{Within}
 use Rattle.division.proofs.tests.network.Given as goal
 
-abbrev pub invariant-loop-tail : goal.invariant-loop-tail
-invariant-loop-tail l = Within l.places l.drawn.items × (length l.drawn.items ≤ 4096)
+abbrev pub invariant-loop-number : goal.invariant-loop-number
+invariant-loop-number l = Within l.places l.number l.drawn × (length l.drawn ≡ 4096)

@@ -16,4 +16,5 @@ loop-number-preserved c =
     let k = c.loop-number.number in
     let lt : k < m.counts.links = omega (arith, ap (λ n. n.links) c.counts-counts.ensures) in
     let l : c.unwrap-link.result ≡ link_of m k lt = same_some c.link.result (link_of m k lt) c.unwrap-link.result (c.link.ensures.known lt) c.unwrap-link.ensures in
-    rw c.push.ensures.items (sketch_more (map_graph m c.args.closed.now) k c.loop-number.links.items _ c.loop-number.invariant (record { is_open = ap not (get_or-take c.counts-counts.result.links c.args.closed.now k false (omega arith)); tail = ap (λ x. x.from) l; head = ap (λ x. x.to) l }))
+    let few : k < 4096 = omega (arith, m.sized, lt) in
+    sketch_more (map_graph m c.args.closed.now) k c.loop-number.drawn _ c.loop-number.invariant few (record { is_open = ap not (get_or-take c.counts-counts.result.links c.args.closed.now k false (omega arith)); tail = ap (λ x. x.from) l; head = ap (λ x. x.to) l })

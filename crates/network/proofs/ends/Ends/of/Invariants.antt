@@ -3,4 +3,4 @@ use Rattle.network.proofs.Drawing.{Sketch}
 use Rattle.network.proofs.ends.Ends.of.Given as goal
 
 abbrev pub invariant-loop-number : goal.invariant-loop-number
-invariant-loop-number l = Sketch (map_graph l.map l.closed) l.number l.links.items
+invariant-loop-number l = Sketch (map_graph l.map l.closed) l.number l.drawn
