@@ -34,7 +34,7 @@ module _ {C : Type 0} (less : C → C → Bool) (q : Lent C) (n : ℕ) (c : C) (
   number_at : (item new place).number ≡ n
   number_at = ap (λ (x : Item C). x.number) w.here
 
-  row_lowered : Lowers less q n c place → Leaves len
+  pub row_lowered : Lowers less q n c place → Leaves len
   row_lowered l =
       let f = item old in
       let recosted = number_at ∙ sym l.number in (
@@ -48,7 +48,7 @@ module _ {C : Type 0} (less : C → C → Bool) (q : Lent C) (n : ℕ) (c : C) (
         },
       )
 
-  row_added : Adds q n place → Leaves (len + 1)
+  pub row_added : Adds q n place → Leaves (len + 1)
   row_added a =
       let f = item old in
       let w' : Written old new len record { number = n; cost = Some c } = subst (λ x. Written old new x record { number = n; cost = Some c }) a.end w in

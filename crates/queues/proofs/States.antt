@@ -1,16 +1,17 @@
 -- From places to the state: what a change of the items means.
-use Rattle.std.proofs.Common.{◌≡◌, ℕ, ◌+◌, ◌<◌, min, true, false, ◌≢◌, ◌⊎◌, List, is_some, Some, None, Option, sym, refl, ap, ◌∙◌, inl, inr, arith}
-use Rattle.std.proofs.lemmas.Bool.{cases_eq, both_ways}
+use Rattle.std.proofs.Common.{◌≡◌, ℕ, ◌+◌, ◌<◌, ◌≤◌, min, true, false, ◌≢◌, ◌⊎◌, List, length, take, is_some, Some, None, Option, sym, refl, ap, ◌∙◌, inl, inr, arith}
+use Rattle.std.proofs.lemmas.Bool.{cases_eq, cases_lt, both_ways}
+use Rattle.std.proofs.lemmas.List.{get_or-take, get_or_past, length-take-le}
 use Rattle.kinds.proofs.Order.{not_less_self}
 use Rattle.kinds.specs.Meaning.{Meaning}
 use Rattle.kinds.specs.Laws.{Laws}
 use Rattle.queues.specs.declared.entry.Item.{Item}
 use Rattle.queues.specs.declared.entry.Entry.{Entry}
-use Rattle.queues.specs.State.{State, put, added, lowered, taken}
+use Rattle.queues.specs.State.{State, cleared, put, added, lowered, taken}
 use Rattle.queues.specs.Takes.{Least}
 use Rattle.queues.specs.Sound.{Sound}
 use Rattle.queues.specs.Order.{cheaper, before}
-use Rattle.queues.specs.Cells.{item, seek, cells_state, Fit, Tidy, Nowhere}
+use Rattle.queues.specs.Cells.{entry, item, blank, seek, cells_state, Fit, Tidy, Nowhere, Found, Refloored}
 use Rattle.queues.proofs.Orders.{before_costs, before_numbers}
 use Rattle.queues.proofs.Places.{Here, look, seek_none, seek_at, seek_more, once_more, seek_recost, once_recost, seek_less, once_less}
 
@@ -116,3 +117,18 @@ module _ {Cost : Type 0} where
     room = omega arith;
     fit = record { costed = λ k h. absurd (omega arith); once = λ j k h l e. absurd (omega arith) };
   }
+
+  pub cleared_state : (old new : List (Entry Cost)) → Refloored old new None → cells_state new 0 0 ≡ cleared (length old)
+  cleared_state old new r = same_state _ _ (λ n. refl) refl (floor (cases_lt 0 (length old))) refl r.length_same
+    where
+      floor : (0 < length old) ⊎ (length old ≤ 0) → (entry new 0).floor ≡ None
+      floor (inl h) = r.floor_set h
+      floor (inr h) = ap (λ (x : Entry Cost). x.floor) (get_or_past new 0 blank (omega (arith, r.length_same)))
+
+  -- what a scan of the first entries finds
+  pub found_front : (cells : List (Entry Cost)) (n len : ℕ) (r : Option ℕ) → len ≤ length cells → Found (item (take len cells)) n (length (take len cells)) r → Found (item cells) n len r
+  found_front cells n len None h f =
+      λ k l e. f k (omega (arith, length-take-le len cells h)) (ap (λ (x : Entry Cost). x.item.number) (get_or-take len cells k blank l) ∙ e)
+  found_front cells n len (Some k) h f =
+      let l : k < len = omega (arith, length-take-le len cells h, f.0) in
+      (l, ap (λ (x : Entry Cost). x.item.number) (sym (get_or-take len cells k blank l)) ∙ f.1)

@@ -17,6 +17,9 @@ pub trait Queue<K: Kind> {
     // the kind, which a queue's type does not name.
     ghost kept: { Self → Type 0 };
 
+    // What every well-kept queue's state keeps. A member above the calls, and no law: clauses of callers may name it.
+    ghost sound: { (q : Self) → kept q → Sound (state q) };
+
     // Leaves nothing waiting, no floor and no takes, from any state.
     fn clear(&mut self)
         ensures state { state self.new ≡ cleared (state self.old).size }
@@ -58,9 +61,6 @@ pub trait Queue<K: Kind> {
     fn cost(&self, number: u32) -> Option<K::Cost>
         requires { kept self.now }
         ensures { result ≡ (state self.now).at number };
-
-    // What every well-kept queue's state keeps.
-    ghost sound: { (q : Self) → kept q → Sound (state q) };
 }
 
 // A queue over a list that its maker lends: cleared, whatever the list held, and as large as the list is long.
