@@ -7,7 +7,9 @@ use Rattle.structures.proofs.Held.{Held, held_self, holder_place}
 use Rattle.structures.proofs.Maximal.{Top}
 use Rattle.structures.proofs.Growth.{held_cases}
 use Rattle.structures.proofs.Cover.{Covered, assigned_held, assigned_call, assigned_only, owners_none, owners_call, owners_top}
+use Rattle.division.specs.Lists.{at}
 use Rattle.division.specs.Growing.{Member, Grown}
+use Rattle.division.specs.Twinned.{LowestTwin, Named}
 use Rattle.division.specs.Covering.{owner_at, named, Called, StillCovered, Overwritten, Owned}
 
 -- Some owner is not none.
@@ -56,6 +58,9 @@ module _ (g : Graph) (within : Within g) where
     covered = λ w here ne. absurd (ne (free w here));
   }
 
+  pub named_none : (owner : ℕ → Option ℕ) (name : ℕ → ℕ) → ((w : ℕ) → w < g.places → owner w ≡ None) → Named g owner name g.places
+  named_none owner name free v here own = absurd (some_not_none (owner v) v own (free v here))
+
   module _ (v : ℕ) (here : v < g.places) (member : ℕ → ℕ) (len : ℕ) (owner after : ℕ → Option ℕ) (called : Called g owner) (grown : Grown g v member len) (over : Overwritten member len v owner after) where
     now_v : (w : ℕ) → Held g v w → after w ≡ Some v
     now_v w h = let m = grown.all w h in ap after (sym m.2) ∙ over.members m.0 m.1
@@ -80,6 +85,17 @@ module _ (g : Graph) (within : Within g) where
         covered : (w : ℕ) → w < g.places → after w ≢ None → Held g v w ⊎ (Held g v w → ⊥) → Covered g (v ∷ called.calls) w
         covered w lt some (inl h) = (v, inl refl, h)
         covered w lt some (inr n) = let c = called.covered w lt (λ f. some (as_was w n ∙ f)) in (c.0, inr c.1, c.2)
+
+    -- v has its name; a member that was its own owner is none any more
+    pub called_named : (names : List ℕ) (low : ℕ) → v < length names → LowestTwin g v low → Named g owner (at names) g.places → Named g after (at (set names v low)) g.places
+    called_named names low within_names twin before u lt own = go (cases_eq u v)
+      where
+        go : (u ≡ v) ⊎ (u ≡ v → ⊥) → LowestTwin g u (at (set names v low) u)
+        go (inl e) = subst (λ x. LowestTwin g x (at (set names v low) x)) (sym e) (subst (LowestTwin g v) (sym (get_or-set_same names v low 0 within_names)) twin)
+        go (inr ne) = subst (LowestTwin g u) (sym (get_or-set_other names v u low 0 ne)) (before u lt (sym (as_was u apart) ∙ own))
+          where
+            apart : Held g v u → ⊥
+            apart h = ne (ap (λ o. unwrap_or o 0) (sym own ∙ now_v u h))
 
     pub covers_v : after v ≢ None
     covers_v = some_not_none (after v) v (now_v v (held_self g v))

@@ -5,7 +5,9 @@ use Rattle.structures.proofs.Held.{Held}
 use Rattle.structures.proofs.Maximal.{Top}
 use Rattle.structures.proofs.Cover.{Covered, Fresh, Owners}
 use Rattle.division.specs.declared.cover.Covering.{Covering}
+use Rattle.division.specs.Lists.{at}
 use Rattle.division.specs.Growing.{Member}
+use Rattle.division.specs.Twinned.{Named}
 use Rattle.division.specs.Working.{Waiting}
 
 -- The owner of each place; none of a place that no call has covered.
@@ -24,9 +26,10 @@ pub record Called (g : Graph) (owner : ℕ → Option ℕ) : Type 0 where
   pub free : (w : ℕ) → w < g.places → owner w ≡ None → Covered g calls w → ⊥
   pub covered : (w : ℕ) → w < g.places → owner w ≢ None → Covered g calls w
 
--- The owners and the work list between two calls.
+-- The owners with their names and the work list between two calls.
 pub record Underway (g : Graph) (covering : Covering) : Type 0 where
   pub called : Called g (owner_at covering.owners)
+  pub names : Named g (owner_at covering.owners) (at covering.names) g.places
   pub waiting : Waiting g.places covering.work
 
 -- What is covered stays so.

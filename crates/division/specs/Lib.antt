@@ -3,7 +3,7 @@ pub mod Refusals
 pub mod Divided
 pub mod Growing
 pub mod Working
-pub mod Covering
 pub mod Twinned
+pub mod Covering
 pub mod Ringing
 pub mod Laying

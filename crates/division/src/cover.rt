@@ -1,20 +1,28 @@
 ghost use Rattle.std.specs.Prelude.{◌≡◌, ℕ, ◌<◌, ◌≢◌, None, All, length};
 ghost use Rattle.network.specs.Packed.{graph_of};
+ghost use Rattle.network.specs.declared.network.Network.{Network};
 ghost use Rattle.division.specs.Lists.{at};
+ghost use Rattle.division.specs.Twinned.{Named};
 ghost use Rattle.division.specs.Working.{Waiting};
 ghost use Rattle.division.specs.Covering.{owner_at, Underway, StillCovered, Overwritten, Owned};
 
 use super::growth::Grower;
+use super::leaving::leaving;
+use super::lowest::lowest_twin;
 use super::walk::postorder;
 use super::work::Work;
 use network::network::Network;
 
-// The places that growths have covered so far, each with the place whose growth covered it last, and the places to grow
-// from next. What holds between two calls is a clause: as a ghost field it would have to be truncated, and could not be
-// opened for what follows from it, which holds data as it does.
+// The places that growths have covered so far, each with the place whose growth covered it last, its owner; for each owner
+// its name, the lowest place with the same structure, and two tables to find it with; and the places to grow from next.
+// What holds between two calls is a clause: as a ghost field it would have to be truncated, and could not be opened for
+// what follows from it, which holds data as it does.
 #[derive(Drop)]
 pub struct Covering {
-    owners: [Option<u16>; 2048],
+    pub owners: [Option<u16>; 2048],
+    pub names: [u16; 2048],
+    spots: [u16; 2048],
+    far: [u16; 2048],
     work: Work,
 }
 
@@ -37,7 +45,7 @@ fn meet_heads(net: &Network, u: usize, owners: &[Option<u16>; 2048], work: &mut 
     ensures waiting { Waiting net.now.places work.new }
     ensures next { work.new.next ≡ work.old.next }
 {
-    for link in net.leaving(u) {
+    for link in leaving(net, u) {
         if owners[link.head as usize].is_none() {
             work.meet(link.head);
         }
@@ -58,6 +66,19 @@ fn meet_border(net: &Network, members: &[u16], owners: &[Option<u16>; 2048], wor
 }
 
 impl Covering {
+    // No place is covered yet.
+    pub fn new() -> Covering
+        ensures { (n : Network) → Underway (graph_of n) result }
+    {
+        Covering {
+            owners: [None; 2048],
+            names: [0; 2048],
+            spots: [0; 2048],
+            far: [0; 2048],
+            work: Work::new(),
+        }
+    }
+
     // Covers v, by a growth from it if no earlier one did.
     fn call(&mut self, grower: &mut Grower<'_>, v: usize)
         requires place { v < grower.old.net.now.places }
@@ -69,7 +90,9 @@ impl Covering {
         ensures next { self.new.work.next ≡ self.old.work.next }
     {
         if self.owners[v].is_none() {
-            let _ = grower.grow(v);
+            let closed = grower.grow(v);
+            let name = lowest_twin(grower, v, closed, &mut self.spots, &mut self.far);
+            self.names[v] = name as u16;
             let members = grower.members.as_slice();
             assign(members, v, &mut self.owners);
             meet_border(grower.net, members, &self.owners, &mut self.work);
@@ -119,6 +142,7 @@ impl Covering {
         requires { Underway (graph_of grower.old.net.now) self.old }
         ensures net { grower.new.net ≡ grower.old.net }
         ensures owned { Owned (graph_of grower.old.net.now) (owner_at self.new.owners) }
+        ensures named { Named (graph_of grower.old.net.now) (owner_at self.new.owners) (at self.new.names) grower.old.net.now.places }
     {
         for v in 0..grower.net.places {
             self.call(grower, v);
@@ -126,20 +150,18 @@ impl Covering {
     }
 }
 
-// Gives each place an owner. The order of the calls only decides the speed: first the places without approaches, then
-// the border places as they are met, then what no such place reaches, as a walk leaves it, the last first.
-pub fn cover(grower: &mut Grower<'_>) -> [Option<u16>; 2048]
+// Gives each place an owner, and each owner a name, in a covering that is lent, as an answer would be copied twice. The
+// order of the calls only decides the speed: first the places without approaches, then the border places as they are met,
+// then what no such place reaches, as a walk leaves it, the last first.
+pub fn cover(grower: &mut Grower<'_>, covering: &mut Covering)
+    requires { Underway (graph_of grower.old.net.now) covering.old }
     ensures net { grower.new.net ≡ grower.old.net }
-    ensures owned { Owned (graph_of grower.old.net.now) (owner_at result) }
+    ensures owned { Owned (graph_of grower.old.net.now) (owner_at covering.new.owners) }
+    ensures named { Named (graph_of grower.old.net.now) (owner_at covering.new.owners) (at covering.new.names) grower.old.net.now.places }
 {
-    let mut covering = Covering {
-        owners: [None; 2048],
-        work: Work::new(),
-    };
     covering.call_bare(grower);
     covering.drain(grower);
     let walk = postorder(grower.net, &covering.owners);
     covering.call_walked(grower, walk.as_slice());
     covering.call_all(grower);
-    covering.owners
 }

@@ -1,22 +1,24 @@
 ghost use Rattle.std.specs.Prelude.{◌≡◌, ℕ, ◌+◌, ◌<◌, ◌≤◌, MatchBool, length};
-ghost use Rattle.arrayvec.specs.ArrayVec.{array_vec_len};
 ghost use Rattle.network.specs.Packed.{graph_of};
 ghost use Rattle.division.specs.Lists.{at};
 ghost use Rattle.division.specs.Growing.{Before, Pending, Growing, Grown, Full, PutBack, Closed, Alone};
 
 use super::counters::count_approaches;
-use arrayvec::ArrayVec;
+use super::leaving::leaving;
+use super::members::Members;
 use network::network::Network;
 
 // Grows structures in a network. Between two growths each place has as many links left to follow as lead to it. The
 // tables stay two, and no table of pairs: what is counted down is lent alone, and so the other cannot change. Each call that
-// changes the grower says that the network is the same, which no type can.
+// changes the grower says that the network is the same, which no type can. The members stand before the tables, their number
+// before them, so that all of these lie off the tables of a network that is whole pages away: else an entry read there waits
+// for one written here, on a processor that first compares addresses by their place in a page.
 #[derive(Drop)]
 pub struct Grower<'n> {
     pub net: &'n Network,
+    pub members: Members,
     pub approaches: [u16; 2048],
     pub left: [u16; 2048],
-    pub members: ArrayVec<u16, 2048>,
     ghost counted: { Full (graph_of net.now) (at approaches) },
     ghost untouched: { Full (graph_of net.now) (at left) },
 }
@@ -24,20 +26,14 @@ pub struct Grower<'n> {
 // The functions that a growth consists of take its tables one by one: meanwhile they are not what the type says.
 
 // Follows the links that leave member k; a place other than v to which no link is left joins.
-fn follow(
-    net: &Network,
-    v: usize,
-    k: usize,
-    left: &mut [u16; 2048],
-    members: &mut ArrayVec<u16, 2048>,
-)
-    requires before { k < array_vec_len members.old }
-    requires growing { Growing (graph_of net.now) v (at members.old.items) (at left.old) (array_vec_len members.old) (Before (graph_of net.now) (at members.old.items) k) }
-    ensures longer { array_vec_len members.old ≤ array_vec_len members.new }
-    ensures growing { Growing (graph_of net.now) v (at members.new.items) (at left.new) (array_vec_len members.new) (Before (graph_of net.now) (at members.new.items) (k + 1)) }
+fn follow(net: &Network, v: usize, k: usize, left: &mut [u16; 2048], members: &mut Members)
+    requires before { k < length members.old }
+    requires growing { Growing (graph_of net.now) v (at members.old) (at left.old) (length members.old) (Before (graph_of net.now) (at members.old) k) }
+    ensures longer { length members.old ≤ length members.new }
+    ensures growing { Growing (graph_of net.now) v (at members.new) (at left.new) (length members.new) (Before (graph_of net.now) (at members.new) (k + 1)) }
 {
     let u = members.as_slice()[k] as usize;
-    for link in net.leaving(u) {
+    for link in leaving(net, u) {
         let w = link.head as usize;
         left[w] -= 1;
         if left[w] == 0 && w != v {
@@ -47,10 +43,10 @@ fn follow(
 }
 
 // All members of v's structure, v first; every link that leaves one is counted down.
-fn spread(net: &Network, v: usize, left: &mut [u16; 2048], members: &mut ArrayVec<u16, 2048>)
+fn spread(net: &Network, v: usize, left: &mut [u16; 2048], members: &mut Members)
     requires place { v < net.now.places }
     requires full { Full (graph_of net.now) (at left.old) }
-    ensures { Growing (graph_of net.now) v (at members.new.items) (at left.new) (array_vec_len members.new) (Before (graph_of net.now) (at members.new.items) (array_vec_len members.new)) }
+    ensures { Growing (graph_of net.now) v (at members.new) (at left.new) (length members.new) (Before (graph_of net.now) (at members.new) (length members.new)) }
 {
     members.clear();
     members.push(v as u16);
@@ -68,7 +64,7 @@ fn put_back_heads(net: &Network, u: usize, full: &[u16; 2048], left: &mut [u16; 
     requires { u < net.now.places }
     ensures { PutBack (graph_of net.now) u (at full.now) (at left.old) (at left.new) }
 {
-    for link in net.leaving(u) {
+    for link in leaving(net, u) {
         let w = link.head as usize;
         left[w] = full[w];
     }
@@ -97,7 +93,7 @@ impl<'n> Grower<'n> {
             net,
             approaches,
             left: approaches,
-            members: ArrayVec::new(),
+            members: Members::new(),
         }
     }
 
@@ -105,7 +101,7 @@ impl<'n> Grower<'n> {
     pub fn grow(&mut self, v: usize) -> bool
         requires { v < self.old.net.now.places }
         ensures net { self.new.net ≡ self.old.net }
-        ensures grown { Grown (graph_of self.old.net.now) v (at self.new.members.items) (array_vec_len self.new.members) }
+        ensures grown { Grown (graph_of self.old.net.now) v (at self.new.members) (length self.new.members) }
         ensures closed { MatchBool result (Closed (graph_of self.old.net.now) v) (Alone (graph_of self.old.net.now) v) }
     {
         spread(self.net, v, &mut self.left, &mut self.members);

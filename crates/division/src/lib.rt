@@ -7,7 +7,9 @@ mod cover;
 pub mod divide;
 mod growth;
 mod layout;
+mod leaving;
 mod lowest;
+mod members;
 #[cfg(test)]
 mod tests;
 mod walk;

@@ -1,14 +1,15 @@
-ghost use Rattle.std.specs.Prelude.{◌≡◌, ℕ, ◌+◌, ◌<◌, length};
+ghost use Rattle.std.specs.Prelude.{◌≡◌, ℕ, ◌+◌, ◌<◌, MatchBool, length};
 ghost use Rattle.network.specs.Packed.{graph_of};
 ghost use Rattle.division.specs.Lists.{at};
-ghost use Rattle.division.specs.Growing.{Grown};
+ghost use Rattle.division.specs.Growing.{Grown, Closed, Alone};
 ghost use Rattle.division.specs.Twinned.{Spotted, LinkReach, Reach, LowestTwin, Named};
 ghost use Rattle.division.specs.Ringing.{IsRing, ReachesFrom};
 ghost use Rattle.division.specs.Covering.{owner_at, Owned};
 ghost use Rattle.division.specs.Divided.{TriggerEntries};
 
-use super::cover::cover;
+use super::cover::{Covering, cover};
 use super::growth::Grower;
+use super::leaving::leaving;
 use network::network::Network;
 
 // The members of u's structure, u first, and the position of each; u is approached, from among them only. That is a
@@ -64,7 +65,7 @@ impl<'r> Ring<'r> {
     {
         let x = self.members[from] as usize;
         let mut best = 0usize;
-        for link in self.net.leaving(x) {
+        for link in leaving(self.net, x) {
             best = best.max(self.link_reach(far, from, link.head as usize));
         }
         best
@@ -100,18 +101,21 @@ impl<'r> Ring<'r> {
     }
 }
 
-// The lowest place whose complete structure is that of u.
+// The lowest place whose complete structure is that of u. The grower grew it last, and said whether u is approached, from
+// among its members only. If not, no other place has that structure.
 pub fn lowest_twin(
-    grower: &mut Grower<'_>,
+    grower: &Grower<'_>,
     u: usize,
+    closed: bool,
     spots: &mut [u16; 2048],
     far: &mut [u16; 2048],
 ) -> usize
-    requires { u < grower.old.net.now.places }
-    ensures net { grower.new.net ≡ grower.old.net }
-    ensures lowest { LowestTwin (graph_of grower.old.net.now) u result }
+    requires place { u < grower.now.net.now.places }
+    requires grown { Grown (graph_of grower.now.net.now) u (at grower.now.members) (length grower.now.members) }
+    requires closed { MatchBool closed (Closed (graph_of grower.now.net.now) u) (Alone (graph_of grower.now.net.now) u) }
+    ensures { LowestTwin (graph_of grower.now.net.now) u result }
 {
-    if grower.approaches[u] == 0 || !grower.grow(u) {
+    if !closed {
         return u;
     }
     let members = grower.members.as_slice();
@@ -124,23 +128,6 @@ pub fn lowest_twin(
     };
     ring.reaches(far);
     ring.lowest_member(far)
-}
-
-// For each owner the lowest place whose complete structure is the owner's: a table of its own, as the owners are read
-// while it is written.
-fn name_owners(grower: &mut Grower<'_>, owners: &[Option<u16>; 2048]) -> [u16; 2048]
-    ensures net { grower.new.net ≡ grower.old.net }
-    ensures named { Named (graph_of grower.old.net.now) (owner_at owners.now) (at result) grower.old.net.now.places }
-{
-    let mut names = [0u16; 2048];
-    let mut spots = [0u16; 2048];
-    let mut far = [0u16; 2048];
-    for (u, owner) in owners[..grower.net.places].iter().enumerate() {
-        if *owner == Some(u as u16) {
-            names[u] = lowest_twin(grower, u, &mut spots, &mut far) as u16;
-        }
-    }
-    names
 }
 
 // Writes the trigger of each place: the name of its owner.
@@ -168,7 +155,7 @@ pub fn name_triggers(grower: &mut Grower<'_>, triggers: &mut [u32])
     ensures net { grower.new.net ≡ grower.old.net }
     ensures named { TriggerEntries (graph_of grower.old.net.now) triggers.new }
 {
-    let owners = cover(grower);
-    let names = name_owners(grower, &owners);
-    write_triggers(grower.net, &owners, &names, triggers);
+    let mut covering = Covering::new();
+    cover(grower, &mut covering);
+    write_triggers(grower.net, &covering.owners, &covering.names, triggers);
 }

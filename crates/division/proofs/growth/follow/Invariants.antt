@@ -5,4 +5,4 @@ use Rattle.division.proofs.growth.follow.Given as goal
 
 abbrev pub invariant-loop-link : goal.invariant-loop-link
 invariant-loop-link l =
-    Following l.net l.v l.k l.u (at l.initial.members.items) (length l.initial.members.items) (at l.members.items) (at l.left) (length l.members.items) (at l.net.first l.u + l.link-index)
+    Following l.net l.v l.k l.u (at l.initial.members) (length l.initial.members) (at l.members) (at l.left) (length l.members) (at l.net.first l.u + l.link-index)

@@ -8,7 +8,7 @@ use Rattle.division.proofs.growth.spread.Goals as goal
 pub loop-k-init : goal.loop-k-init
 loop-k-init c =
     let g = graph_of c.args.net.now in
-    let alone = c.push.ensures.items ∙ ap (λ xs. xs ++ c.args.v ∷ []) c.clear.ensures in (
+    let alone = c.push.ensures ∙ ap (λ xs. xs ++ c.args.v ∷ []) c.clear.ensures in (
       subst (λ (xs : List ℕ). Growing g c.args.v (at xs) (at c.args.left.now) (length xs) (Before g (at xs) 0)) (sym alone)
           (growing_none c.args.net.now c.args.v c.requires.place c.args.left.now c.requires.full),
       omega arith,

@@ -6,7 +6,7 @@ use Rattle.division.proofs.growth.spread.Given as goal
 
 abbrev pub invariant-loop-k : goal.invariant-loop-k
 invariant-loop-k l =
-    Growing (graph_of l.net) l.v (at l.members.items) (at l.left) (length l.members.items) (Before (graph_of l.net) (at l.members.items) l.k) × (l.k ≤ length l.members.items)
+    Growing (graph_of l.net) l.v (at l.members) (at l.left) (length l.members) (Before (graph_of l.net) (at l.members) l.k) × (l.k ≤ length l.members)
 
 abbrev pub decreases-loop-k : goal.decreases-loop-k
 decreases-loop-k l = l.net.places - l.k

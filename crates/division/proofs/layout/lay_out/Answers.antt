@@ -59,7 +59,7 @@ loop-t-preserved c =
     let named = c.requires.named c.loop-t.t here in
     elim c.if-trigger-t.branch [
       | then-trigger-t w ↦
-          let members : List ℕ = w.grow.new.self.members.items in
+          let members : List ℕ = w.grow.new.self.members in
           let long : length w.as_slice-members.result.now ≡ length members = ap length w.as_slice-members.ensures.value in
           let grown = same_net _ c.loop-t.invariant.0 w.grow.ensures.grown in
           let stretched = subst (λ (xs : List ℕ). Stretched (at xs) (length xs) c.loop-t.next (at c.loop-t.order) (at w.write_stretch.new.order)) w.as_slice-members.ensures.value w.write_stretch.ensures in (

@@ -14,6 +14,9 @@ use Rattle.division.proofs.lowest.Ring.reach_of.Goals as goal
 member_place : (s : Ring) (q : ℕ) → IsRing s → q < length s.members.now → at s.members.now q < s.net.now.places
 member_place s q ringed lt = held_place (graph_of s.net.now) (within s.net.now) ringed.known (ringed.grown.only q lt)
 
+pub leaving-link-items-requires : goal.leaving-link-items-requires
+leaving-link-items-requires c = member_place c.args.self.now c.args.from c.requires.ringed c.requires.within
+
 pub link_reach-requires-clause-known : goal.link_reach-requires-clause-known
 link_reach-requires-clause-known c =
     let s = c.args.self.now in
